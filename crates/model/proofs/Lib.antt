@@ -1,0 +1,15 @@
+pub mod Trace
+pub mod Every
+pub mod Ends
+pub mod Carries
+pub mod Then
+pub mod Limit
+pub mod Advance
+pub mod Entry
+pub mod Next
+pub mod Finally
+pub mod Frame
+pub mod Kept
+pub mod Positions
+pub mod Polls
+pub mod Settled

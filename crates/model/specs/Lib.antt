@@ -1,0 +1,14 @@
+pub mod Field
+pub mod Wait
+pub mod Event
+pub mod Tally
+pub mod Steps
+pub mod Run
+pub mod State
+pub mod Limit
+pub mod Ends
+pub mod Positions
+pub mod Polls
+pub mod Order
+pub mod Frame
+pub mod Settled
