@@ -1,3 +1,4 @@
+pub mod Field
 pub mod Trace
 pub mod Every
 pub mod Ends
