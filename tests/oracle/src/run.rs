@@ -1,0 +1,325 @@
+//! One case: read, run, written.
+
+use crate::plan::Plan;
+use crate::words::Words;
+use recorder::Record;
+use recorder::call::{Call, How, Opening};
+use std::cell::RefCell;
+use std::fmt::Write;
+
+/// The limit, the log's length in words and the answers of a run, in the places where a case line has them.
+struct Lent {
+    limit: u64,
+    log_words: usize,
+}
+
+impl Lent {
+    fn read(w: &mut Words) -> Result<Self, String> {
+        Ok(Lent {
+            limit: u64::from(w.u32()?),
+            log_words: w.usize()?,
+        })
+    }
+
+    /// The last words of every call's case: the answers. The run begins with them.
+    fn begin(&self, w: &mut Words) -> Result<(), String> {
+        let answers = w.list()?;
+        w.end()?;
+        match PLAN.take() {
+            None => recorder::begin(self.limit, self.log_words / 2, answers),
+            Some(mut plan) => {
+                let source = move |record: &Record, asked| Some(plan.answer(record, asked));
+                recorder::begin_from(self.limit, self.log_words / 2, Box::new(source));
+            }
+        }
+        Ok(())
+    }
+}
+
+/// The chip with QPI or the one without.
+fn call(qpi: bool, rate: u32, c: Call<'_>) -> How {
+    if qpi {
+        d13x::calls::call(rate, c)
+    } else {
+        d21x::calls::call(rate, c)
+    }
+}
+
+/// The log and the end line. A panic has a line of its own in place of the end line.
+fn ended(how: &How, out: &mut String) {
+    let record = recorder::end();
+    MADE.set(record.answers.clone());
+    for e in &record.log {
+        let letter = char::from(b"rwbgd"[usize::from(e.op) - 1]);
+        writeln!(out, "{letter} {:04x} {:08x}", e.place, e.value).unwrap();
+    }
+    let counts = format!(
+        "{} {} {} {}",
+        record.log.len(),
+        record.answers.len(),
+        record.polls,
+        record.longest
+    );
+    match how {
+        How::Number(n) => writeln!(out, "end {n} {counts}"),
+        How::Panic(said) => writeln!(out, "panic {counts} {said}"),
+    }
+    .unwrap();
+}
+
+/// A line for each byte that is no longer what was given.
+fn changed(given: &[u8], now: &[u8], out: &mut String) {
+    for (i, (a, b)) in given.iter().zip(now).enumerate() {
+        if a != b {
+            writeln!(out, "m {i:08x} {b:02x}").unwrap();
+        }
+    }
+}
+
+/// A call that receives into `buffer`.
+fn receiving(mut buffer: Vec<u8>, out: &mut String, f: impl FnOnce(&mut [u8]) -> How) {
+    let given = buffer.clone();
+    let how = f(&mut buffer);
+    ended(&how, out);
+    changed(&given, &buffer, out);
+}
+
+thread_local! {
+    /// The plan that makes up the answers of a run in place of the case's own, and those that it made up.
+    static PLAN: RefCell<Option<Plan>> = const { RefCell::new(None) };
+    static MADE: RefCell<Vec<u32>> = const { RefCell::new(Vec::new()) };
+}
+
+/// The answers that the run of a case takes from a plan; the case's own are not used.
+pub fn answered_by(line: &str, plan: Plan) -> Vec<u32> {
+    PLAN.set(Some(plan));
+    answer(line, &mut String::new()).unwrap_or_else(|why| panic!("{line}: {why}"));
+    MADE.take()
+}
+
+/// Answers one case line.
+pub fn answer(line: &str, out: &mut String) -> Result<(), String> {
+    let w = &mut Words::new(line);
+    match w.name()? {
+        "open" => open(w, out),
+        "free" => free(w, out),
+        "clock" => clock(w, out),
+        "sck" => sck(w, out),
+        "dummy" => dummy(w, out),
+        name => on_a_bus(name, w, out),
+    }
+}
+
+fn on_a_bus(name: &str, w: &mut Words, out: &mut String) -> Result<(), String> {
+    let lent = Lent::read(w)?;
+    match name {
+        "write" => {
+            let bytes = w.bytes()?;
+            lent.begin(w)?;
+            ended(&call(true, 0, Call::Write(&bytes)), out);
+        }
+        "read" | "inplace" => {
+            let buffer = w.bytes()?;
+            lent.begin(w)?;
+            let read = name == "read";
+            receiving(buffer, out, |b| {
+                call(
+                    true,
+                    0,
+                    if read {
+                        Call::Read(b)
+                    } else {
+                        Call::InPlace(b)
+                    },
+                )
+            });
+        }
+        "transfer" => {
+            let buffer = w.bytes()?;
+            let sent = w.bytes()?;
+            lent.begin(w)?;
+            receiving(buffer, out, |b| call(true, 0, Call::Transfer(b, &sent)));
+        }
+        "flush" => {
+            lent.begin(w)?;
+            ended(&call(true, 0, Call::Flush), out);
+        }
+        "mode" => {
+            let qpi = w.flag()?;
+            let mode = w.up_to(6)?;
+            lent.begin(w)?;
+            ended(&call(qpi, 0, Call::Mode(mode)), out);
+        }
+        "quadread" => {
+            let rate = w.u32()?;
+            let command = w.bytes()?;
+            let tclqv_ns = w.u32()?;
+            let margin = w.up_to(255)? as u8;
+            let buffer = w.bytes()?;
+            lent.begin(w)?;
+            receiving(buffer, out, |data| {
+                let command = &command;
+                call(
+                    true,
+                    rate,
+                    Call::QuadRead {
+                        command,
+                        tclqv_ns,
+                        margin,
+                        data,
+                    },
+                )
+            });
+        }
+        "quadwrite" => {
+            let command = w.bytes()?;
+            let data = w.bytes()?;
+            lent.begin(w)?;
+            ended(&call(true, 0, Call::QuadWrite(&command, &data)), out);
+        }
+        "transaction" => {
+            let records = w.list()?;
+            let memory = w.bytes()?;
+            lent.begin(w)?;
+            match chain(&records, memory.len()) {
+                Some(chain) => receiving(memory, out, |m| transaction(&chain, m)),
+                None => writeln!(out, "refused").unwrap(),
+            }
+        }
+        _ => return Err(format!("{name} is no case")),
+    }
+    Ok(())
+}
+
+fn open(w: &mut Words, out: &mut String) -> Result<(), String> {
+    let mut o = Opening {
+        instance: w.u32()?,
+        mode: w.up_to(3)?,
+        master: w.flag()?,
+        work_mode: w.up_to(6)?,
+        bit_mode_en: w.flag()?,
+        lsb_first: w.flag()?,
+        cs_config: None,
+        freq: 0,
+        pll_hz: 0,
+        osc_hz: 0,
+    };
+    let selects = w.flag()?;
+    let record = [w.up_to(1)?, w.up_to(1)?, w.up_to(1)?];
+    o.cs_config = selects.then_some(record);
+    o.freq = w.u32()?;
+    o.pll_hz = w.u32()?;
+    o.osc_hz = w.u32()?;
+    let qpi = w.flag()?;
+    let lent = Lent::read(w)?;
+    lent.begin(w)?;
+    let (how, rate) = if qpi {
+        d13x::calls::open(&o)
+    } else {
+        d21x::calls::open(&o)
+    };
+    ended(&how, out);
+    writeln!(out, "rate {rate}").unwrap();
+    Ok(())
+}
+
+fn free(w: &mut Words, out: &mut String) -> Result<(), String> {
+    let instance = w.u32()?;
+    let lent = Lent {
+        limit: 1,
+        log_words: w.usize()?,
+    };
+    lent.begin(w)?;
+    ended(&d13x::calls::free(instance), out);
+    Ok(())
+}
+
+fn clock(w: &mut Words, out: &mut String) -> Result<(), String> {
+    let (pll_hz, target) = (w.u32()?, w.u32()?);
+    w.end()?;
+    let (m, kind, c) = d13x::calls::select_clock(pll_hz, target);
+    let (_, rate) = d13x::calls::actual_sck(pll_hz, m, kind, c);
+    writeln!(out, "clock {m} {kind} {c} {rate}").unwrap();
+    Ok(())
+}
+
+/// The Rust's dividers are bytes: a wider one cannot be given to it.
+fn sck(w: &mut Words, out: &mut String) -> Result<(), String> {
+    let (pll_hz, m, kind, c) = (w.u32()?, w.u32()?, w.up_to(2)?, w.u32()?);
+    w.end()?;
+    match (u8::try_from(m), u8::try_from(c)) {
+        (Ok(m), Ok(c)) => match d13x::calls::actual_sck(pll_hz, m, kind as u8, c) {
+            (How::Number(n), rate) => writeln!(out, "sck {n} {rate}"),
+            (How::Panic(said), _) => writeln!(out, "panic {said}"),
+        },
+        _ => writeln!(out, "none"),
+    }
+    .unwrap();
+    Ok(())
+}
+
+fn dummy(w: &mut Words, out: &mut String) -> Result<(), String> {
+    let (rate, tclqv_ns, margin) = (w.u32()?, w.u32()?, w.up_to(255)? as u8);
+    w.end()?;
+    writeln!(
+        out,
+        "dummy {}",
+        d13x::calls::dummy_bytes_for(rate, tclqv_ns, margin)
+    )
+    .unwrap();
+    Ok(())
+}
+
+/// The records along the chain, or nothing where document 01 refuses it (8 or 9): the Rust has no such thing.
+fn chain(words: &[u32], memory: usize) -> Option<Vec<[u32; 8]>> {
+    if words.len() % 8 != 0 {
+        return None;
+    }
+    let records: Vec<[u32; 8]> = words.chunks(8).map(|r| r.try_into().unwrap()).collect();
+    let inside = |start: u32, length: u32| u64::from(start) + u64::from(length) <= memory as u64;
+    let mut on_chain = Vec::new();
+    let mut at = usize::from(!records.is_empty());
+    while at != 0 {
+        let r = records[at - 1];
+        let next = r[7] as usize;
+        let windows = match r[0] {
+            1 | 2 | 4 => inside(r[1], r[2]),
+            3 => inside(r[1], r[2]) && inside(r[3], r[4]),
+            5 => true,
+            _ => return None,
+        };
+        if !windows || (next != 0 && (next <= at || next > records.len())) {
+            return None;
+        }
+        on_chain.push(r);
+        at = next;
+    }
+    Some(on_chain)
+}
+
+fn window(start: u32, length: u32) -> std::ops::Range<usize> {
+    start as usize..start as usize + length as usize
+}
+
+/// The chain record by record; a copy of each sent part is taken when it begins.
+fn transaction(chain: &[[u32; 8]], memory: &mut [u8]) -> How {
+    for &[kind, f1, f2, f3, f4, ..] in chain {
+        let how = match kind {
+            1 => {
+                let sent = memory[window(f1, f2)].to_vec();
+                call(true, 0, Call::Write(&sent))
+            }
+            2 => call(true, 0, Call::Read(&mut memory[window(f1, f2)])),
+            3 => {
+                let sent = memory[window(f3, f4)].to_vec();
+                call(true, 0, Call::Transfer(&mut memory[window(f1, f2)], &sent))
+            }
+            4 => call(true, 0, Call::InPlace(&mut memory[window(f1, f2)])),
+            _ => call(true, 0, Call::DelayNs(f1)),
+        };
+        if how != How::Number(0) {
+            return how;
+        }
+    }
+    How::Number(0)
+}
