@@ -1,0 +1,11 @@
+// The library that Rust links.
+ghost use mathlib.Core.Path.{_≡_};
+ghost use Rattle.exports.specs.Limit.{defaultLimit};
+
+// The limit of unready polls in one wait that the Rust has.
+#[no_mangle]
+pub extern "C" fn qspi_default_limit() -> u32
+    ensures { λ r. ⌜ r ≡ defaultLimit ⌝ }
+{
+    100_000
+}

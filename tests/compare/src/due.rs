@@ -1,0 +1,158 @@
+//! Which refusal document 01 asks for, read off the case line alone.
+
+use std::iter::MapWhile;
+use std::str::SplitWhitespace;
+
+type Numbers<'a> = MapWhile<SplitWhitespace<'a>, fn(&str) -> Option<u64>>;
+
+fn number(word: &str) -> Option<u64> {
+    match word.strip_prefix("0x") {
+        Some(digits) => u64::from_str_radix(digits, 16).ok(),
+        None => word.parse().ok(),
+    }
+}
+
+fn some(f: &mut Numbers, count: u64) -> Option<Vec<u64>> {
+    (0..count).map(|_| f.next()).collect()
+}
+
+/// The length of a buffer; its bytes are passed over.
+fn buffer(f: &mut Numbers) -> Option<u64> {
+    let (length, given) = (f.next()?, f.next()?);
+    some(f, given).map(|_| length)
+}
+
+/// The number of the refusal that is due, or 0. Nothing where the line cannot be read.
+pub fn due(line: &str) -> Option<u32> {
+    let mut words = line.split_whitespace();
+    let name = words.next()?;
+    let f = &mut words.map_while(number as fn(&str) -> Option<u64>);
+    match name {
+        "open" => some(f, 15).map(|f| open(&f)),
+        "sck" => some(f, 4).map(|f| if f[1] > 31 || (f[2] == 1 && f[3] > 15) { 12 } else { 0 }),
+        "free" | "clock" | "dummy" => Some(0),
+        _ if some(f, 2)?[0] == 0 => Some(7),
+        _ => on_a_bus(name, f),
+    }
+}
+
+/// The whole answer of a call that refuses: counts of 0, no entry, no byte, rate 0.
+pub fn refusal(line: &str, number: u32) -> String {
+    match line.split_whitespace().next() {
+        Some("sck") => format!("sck {number} 0\n"),
+        Some("open") => format!("end {number} 0 0 0 0\nrate 0\n"),
+        _ => format!("end {number} 0 0 0 0\n"),
+    }
+}
+
+fn open(f: &[u64]) -> u32 {
+    let (instance, mode, work, qpi, limit) = (f[0], f[1], f[3], f[13], f[14]);
+    let rules = [(mode == 1 || mode == 3, 3), (instance > 3, 4), (work == 6 && qpi == 0, 5), (limit == 0, 7)];
+    rules.iter().find(|rule| rule.0).map_or(0, |rule| rule.1)
+}
+
+/// 6 where one of the phases is too long.
+fn phases(lengths: &[u64]) -> u32 {
+    if lengths.iter().any(|&n| n > 0xFF_FFFF) { 6 } else { 0 }
+}
+
+fn on_a_bus(name: &str, f: &mut Numbers) -> Option<u32> {
+    Some(match name {
+        "write" | "read" => phases(&[buffer(f)?]),
+        "transfer" | "quadwrite" => phases(&[buffer(f)?, buffer(f)?]),
+        "inplace" | "flush" | "mode" => 0,
+        "quadread" => {
+            let _ = (f.next()?, buffer(f)?, some(f, 2)?);
+            phases(&[buffer(f)?])
+        }
+        "transaction" => {
+            let count = f.next()?;
+            let words = some(f, count)?;
+            transaction(&words, buffer(f)?)
+        }
+        _ => return None,
+    })
+}
+
+fn transaction(words: &[u64], memory: u64) -> u32 {
+    if !words.len().is_multiple_of(8) {
+        return 8;
+    }
+    let records: Vec<&[u64]> = words.chunks(8).collect();
+    let mut at = records.len().min(1);
+    let mut number = 0;
+    while at != 0 && number == 0 {
+        let r = records[at - 1];
+        number = record(r, at as u64, records.len() as u64, memory);
+        at = r[7] as usize;
+    }
+    number
+}
+
+/// The refusal of one record: 8, then 9, then 6. A transfer in place is sent by parts, so its length is not refused.
+fn record(r: &[u64], at: u64, count: u64, memory: u64) -> u32 {
+    let (kind, next) = (r[0], r[7]);
+    let windows = match kind {
+        1 | 2 | 4 => 1,
+        3 => 2,
+        _ => 0,
+    };
+    let windows = r[1..5].chunks(2).take(windows);
+    if !(1..=5).contains(&kind) || (next != 0 && (next <= at || next > count)) {
+        8
+    } else if windows.clone().any(|w| w[0] + w[1] > memory) {
+        9
+    } else {
+        windows.map(|w| if kind == 4 { 0 } else { phases(&w[1..]) }).max().unwrap_or(0)
+    }
+}
+
+#[cfg(test)]
+mod tests {
+    use super::due;
+
+    #[test]
+    fn calls() {
+        for (line, number) in [
+            ("open 9 3 1 6 0 0 0 0 0 0 1 1 1 0 0 9 0", 3),
+            ("open 4 2 1 6 0 0 0 0 0 0 1 1 1 0 0 9 0", 4),
+            ("open 3 0 1 6 0 0 0 0 0 0 1 1 1 0 0 9 0", 5),
+            ("open 3 0 1 6 0 0 0 0 0 0 1 1 1 1 0 9 0", 7),
+            ("open 3 0 1 5 0 0 0 0 0 0 1 1 1 0 1 9 0", 0),
+            ("write 0 0 0x1000000 0 0", 7),
+            ("write 1 0 0x1000000 0 0", 6),
+            ("read 1 0 0xFFFFFF 1 3 0", 0),
+            ("inplace 1 0 0x1000000 0 0", 0),
+            ("transfer 1 0 1 1 7 0x1000000 0 0", 6),
+            ("quadread 1 0 5 0x1000000 0 3 3 4 0 0", 0),
+            ("quadread 1 0 5 2 1 9 3 3 0x1000000 0 0", 6),
+            ("quadwrite 1 0 0x1000000 0 1 0 0", 6),
+            ("sck 5 31 1 15", 0),
+            ("sck 5 32 2 0", 12),
+            ("sck 5 0 1 16", 12),
+            ("transaction 0 0 1 9 4 0 0", 7),
+            ("transaction 1 0 1 9 4 0 0", 8),
+            ("transaction 1 0 0 4 0 0", 0),
+        ] {
+            assert_eq!(due(line), Some(number), "{line}");
+        }
+    }
+
+    /// Chains of two records on a long memory: the first given, the second of an unknown kind.
+    #[test]
+    fn records() {
+        for (record, number) in [
+            ("4 0 0x1000000 0 0 9 9 0", 0),
+            ("4 0 0x1000000 0 0 9 9 2", 8),
+            ("1 0 0x1000000 0 0 9 9 2", 6),
+            ("1 0 0x1000000 0 0 9 9 3", 8),
+            ("2 0xFFFFFFFF 0xFFFFFFFF 0 0 9 9 1", 8),
+            ("2 0xFFFFFFFF 0xFFFFFFFF 0 0 9 9 0", 9),
+            ("3 0 0x1000000 0x1FFFFFF 2 9 9 0", 9),
+            ("5 0xFFFFFFFF 9 9 9 9 9 0", 0),
+        ] {
+            let line = format!("transaction 1 0 16 {record} 0 0 0 0 0 0 0 0 0x2000000 0 0");
+            assert_eq!(due(&line), Some(number), "{line}");
+        }
+    }
+}
