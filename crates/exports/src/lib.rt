@@ -1,6 +1,8 @@
-// The library that Rust links.
+// The library to link: functions on numbers and slices, with C names. None asks anything of its caller.
 ghost use mathlib.Core.Path.{_≡_};
 ghost use Rattle.exports.specs.Limit.{defaultLimit};
+
+pub mod clocks;
 
 // The limit of unready polls in one wait that the Rust has.
 #[no_mangle]
