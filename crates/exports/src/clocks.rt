@@ -1,6 +1,5 @@
 // The clock: its choice, its rate, the dummies that it asks for.
 ghost use mathlib.Core.Path.{_≡_};
-ghost use Rattle.clock.specs.Answer.{answer};
 ghost use Rattle.clock.specs.Rank.{choice};
 ghost use Rattle.clock.specs.Dummies.{dummies};
 ghost use Rattle.exports.specs.Clocks.{kindOf, countOf, dividerOf, sckOf, Selected, Answered};
