@@ -10,7 +10,7 @@ use lib.ListN.{length, length-set}
 use Rattle.model.specs.Wait.{Cause, countOf, ready}
 use Rattle.model.specs.Event.{Event, answerOf, answersOf, receive, received}
 use Rattle.model.specs.Event.Event.{did, heard, got, polled}
-use Rattle.model.specs.Tally.{plus, tallyEvent, tallyOf, longestOf}
+use Rattle.model.specs.Tally.{plus, pollTally, tallyEvent, tallyOf, longestOf}
 use Rattle.model.specs.Steps.{End, Steps, numberOf}
 use Rattle.model.specs.Steps.End.{done, unsupported}
 use Rattle.model.specs.Steps.Steps.{end, act, ask, get, look, wait}
@@ -128,7 +128,7 @@ module _ (limit : ℕ) (late : Bool) where
   -- a poll after n unready ones goes on by `k` where it is ready, else by `p`
   polled-waited : (c : Cause) (n x : ℕ) (o p : Outcome) → suc n ≤ limit → Waited limit 0 late o → Waited limit (suc n) late p
       → (b : Bool) → ready c x ≡ b → Waited limit n late (after (polled c n x) (cond b o p))
-  unfolding tallyEvent
+  unfolding pollTally tallyEvent
   polled-waited c n x o p q h i true e = waited-out (polled c n x) n o (rw e) (omega arith) h
   polled-waited c n x o p q h i false e = waited-on (polled c n x) n p (rw e) q i
 
@@ -143,7 +143,7 @@ module _ (limit : ℕ) (late : Bool) where
       (λ x r' l. polled-waited c n x _ _ (omega arith) (hk _ r' l) (poll-waited c m k u hk hu left (suc n) r' l (omega arith)) (ready c x) refl)
 
 waited : (s : Steps) (limit : ℕ) (late : Bool) (r : ℕ) (ws m : List ℕ) → Waited limit 0 late (run s limit late r ws m)
-unfolding run tallyEvent
+unfolding run pollTally tallyEvent
 waited (end e) l true r ws m = waited-stop l true 0 1 r ws m (λ f. absurd (no f))
   where
     no : true ≡ false → ⊥

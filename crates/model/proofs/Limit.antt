@@ -8,7 +8,7 @@ use native.Mathlib.Decide.{decLt}
 use Rattle.model.specs.Wait.{Cause, countOf, ready}
 use Rattle.model.specs.Event.{Event}
 use Rattle.model.specs.Event.Event.{did, heard, got, polled}
-use Rattle.model.specs.Tally.{plus, tallyEvent, tallyOf, longestOf}
+use Rattle.model.specs.Tally.{plus, pollTally, tallyEvent, tallyOf, longestOf}
 use Rattle.model.specs.Steps.{Steps}
 use Rattle.model.specs.Steps.Steps.{end, act, ask, get, look, wait}
 use Rattle.model.specs.Run.{Outcome, after, entered, answered, poll, run}
@@ -59,7 +59,7 @@ module _ (limit : ℕ) (more : List ℕ) where
         → (tallyEvent (polled c n x) .longest ≡ suc n → Ended (p .number) → Against limit more (after (polled c n x) p) (after (polled c n x) p'))
         → Ended (cond b (k (countOf c x) r l) p .number)
         → Against limit more (after (polled c n x) (cond b (k (countOf c x) r l) p)) (after (polled c n x) (cond b (k' (countOf c x) r (l ++ more)) p'))
-    unfolding tallyEvent
+    unfolding pollTally tallyEvent
     polled-against n x r l p p' true e h z = against-after (polled c n x) _ _ (rw e some) (hk _ r l z)
     polled-against n x r l p p' false e h z = h (rw e) z
 
@@ -78,7 +78,7 @@ module _ (limit : ℕ) (more : List ℕ) where
 
 against : (s : Steps) (limit limit' r : ℕ) (ws more m : List ℕ) → Ended (run s limit false r ws m .number)
     → Against (suc limit') more (run s limit false r ws m) (run s (suc limit') false r (ws ++ more) m)
-unfolding run tallyEvent tallyOf
+unfolding run pollTally tallyEvent tallyOf
 against (end n) l l' r ws more m x = record { same = λ h. refl; late = λ h. absurd (omega (arith, h)) }
 against (act a s) l l' r ws more m x =
     entered-against (suc l') more (did a) r ws m _ _ (omega arith) (λ r'. against s l l' r' ws more m) x

@@ -10,7 +10,7 @@ use lib.ListN.{drop}
 use Rattle.model.specs.Wait.{Cause, countOf, ready}
 use Rattle.model.specs.Event.{Event}
 use Rattle.model.specs.Event.Event.{did, heard, got, polled}
-use Rattle.model.specs.Tally.{plus, tallyEvent, tallyOf}
+use Rattle.model.specs.Tally.{plus, pollTally, tallyEvent, tallyOf}
 use Rattle.model.specs.Steps.{Steps, then, change, waitFor}
 use Rattle.model.specs.Steps.End.{done, unsupported}
 use Rattle.model.specs.Steps.Steps.{end, act, ask, get, look, wait}
@@ -43,7 +43,7 @@ module _ (b : ℕ) where
 poll-polls : (b : ℕ) (c : Cause) (k : ℕ → ℕ → List ℕ → Outcome) (u : ℕ → List ℕ → Outcome)
     → ((x r : ℕ) (l : List ℕ) → pollsOf (k x r l) ≤ b) → ((r : ℕ) (l : List ℕ) → pollsOf (u r l) ≤ b)
     → (left n r : ℕ) (ws m : List ℕ) → pollsOf (poll c k u left n r ws m) ≤ left + b
-unfolding poll tallyEvent
+unfolding poll pollTally tallyEvent
 poll-polls b c k u hk hu zero n r ws m = omega (arith, hu r ws)
 poll-polls b c k u hk hu (suc left) n r ws m =
     answered-polls (suc left + b) (polled c n) r ws m _
@@ -55,7 +55,7 @@ poll-polls b c k u hk hu (suc left) n r ws m =
     ))
 
 pub poll-bound : PollBound
-unfolding run tallyEvent tallyOf
+unfolding run pollTally tallyEvent tallyOf
 poll-bound n (end e) h l b r ws m = omega arith
 poll-bound n (act a s) h l b r ws m = entered-polls (l * n) (did a) r ws m _ refl (λ r'. poll-bound n s h l b r' ws m)
 poll-bound n (ask q k) h l b r ws m =

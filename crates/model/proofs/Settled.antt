@@ -6,7 +6,7 @@ use native.Mathlib.Omega.{arith}
 use Rattle.model.specs.Field.{getField}
 use Rattle.model.specs.Wait.Cause.{start}
 use Rattle.model.specs.Event.{headOf, valueOf, answerOf, answersOf, receive, words, stored}
-use Rattle.model.specs.Tally.{plus, tallyEvent, tallyOf}
+use Rattle.model.specs.Tally.{plus, pollTally, tallyEvent, tallyOf}
 use Rattle.model.specs.Steps.{then, finally, waitFor}
 use Rattle.model.specs.Steps.End.{done}
 use Rattle.model.specs.Run.{answered, poll, run}
@@ -16,7 +16,7 @@ use Rattle.model.specs.Settled.{endOf, fetched, Settled, HypothesesMet}
 use Rattle.model.proofs.Polls.{wait-waits}
 
 pub settled : Settled
-unfolding endOf fetched getField headOf valueOf answerOf answersOf receive words stored plus tallyEvent tallyOf then finally waitFor
+unfolding endOf fetched getField headOf valueOf answerOf answersOf receive words stored plus pollTally tallyEvent tallyOf then finally waitFor
     answered poll run roomOf ran onward advance
 settled =
     record {
@@ -35,7 +35,7 @@ settled =
     }
 
 pub hypotheses-met : HypothesesMet
-unfolding getField plus tallyEvent tallyOf waitFor answered poll run
+unfolding getField plus pollTally tallyEvent tallyOf waitFor answered poll run
 hypotheses-met =
     record {
       limit = (waitFor start, 3, 3, 0x80000000 ∷ 0x80000000 ∷ 0 ∷ [], [], inl refl, omega arith);

@@ -9,7 +9,7 @@ use lib.ListN.{length, set}
 use lib.Seq.{sets, length-sets}
 use Rattle.model.specs.Event.{Event, headOf, valueOf, answerOf, answersOf, words, stored}
 use Rattle.model.specs.Event.Event.{did, heard, got, polled}
-use Rattle.model.specs.Tally.{Tally, none, plus, tallyEvent, tallyOf}
+use Rattle.model.specs.Tally.{Tally, none, plus, pollTally, tallyEvent, tallyOf}
 
 max-assoc : (a b c : ℕ) → max (max a b) c ≡ max a (max b c)
 max-assoc a b c = omega arith
@@ -72,7 +72,7 @@ unfolding stored
 length-stored t log n = length-sets log (n * 2) (words t)
 
 one-poll : (e : Event) → tallyEvent e .polls ≤ 1
-unfolding tallyEvent
+unfolding pollTally tallyEvent
 one-poll (did a) = omega arith
 one-poll (heard q x) = omega arith
 one-poll (got i x) = omega arith

@@ -1,8 +1,8 @@
 -- Polls and longest, counted over a trace (document 01: poll, longest).
-use mathlib.Core.Bool.{cond}
+use mathlib.Core.Bool.{Bool, cond}
 use mathlib.Core.List.{List, [], _∷_}
 use Prim.Native.Nat.{ℕ, suc, _+_, max}
-use Rattle.model.specs.Wait.{ready}
+use Rattle.model.specs.Wait.{Cause, ready}
 use Rattle.model.specs.Event.{Event}
 use Rattle.model.specs.Event.Event.{did, heard, got, polled}
 
@@ -17,12 +17,16 @@ none = record { polls = 0; longest = 0 }
 unfoldable pub plus : Tally → Tally → Tally
 plus a b = record { polls = a .polls + b .polls; longest = max (a .longest) (b .longest) }
 
--- of one event: an unready poll is the one after those that its wait made before it
+-- of one poll, whose wait made n unready ones before it: an unready one is the next of them
+unfoldable pub pollTally : Cause → ℕ → Bool → Tally
+pollTally c n ready = record { polls = 1; longest = cond ready 0 (suc n) }
+
+-- of one event
 unfoldable pub tallyEvent : Event → Tally
 tallyEvent (did a) = none
 tallyEvent (heard q answer) = none
 tallyEvent (got i answer) = none
-tallyEvent (polled c n answer) = record { polls = 1; longest = cond (ready c answer) 0 (suc n) }
+tallyEvent (polled c n answer) = pollTally c n (ready c answer)
 
 unfoldable pub tallyOf : List Event → Tally
 tallyOf [] = none

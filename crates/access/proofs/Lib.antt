@@ -1,0 +1,2 @@
+pub mod Primitive
+pub mod Count

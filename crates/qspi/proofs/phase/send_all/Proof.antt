@@ -1,0 +1,57 @@
+use mathlib.Core.Path.{_≡_}
+use Prim.Native.Nat.{_-_}
+use borrow.Author.Needs.{needs}
+use lib.ListN.{length}
+use Rattle.qspi.proofs.Bytes.{Sending, sending-starts, sending-more, sending-done}
+use Rattle.qspi.proofs.phase.send_all.Statement.{statement}
+use Rattle.qspi.proofs.phase.send_all.Tie as tie
+
+abbrev Inv-loop : tie.InvT-loop
+Inv-loop log₀ buf current₀ i₀ log current i = (length log ≡ length log₀) × Sending buf current₀ log₀ current log i
+
+abbrev μ-loop : tie.MeasureT-loop
+μ-loop log₀ buf current₀ i₀ log current i = length buf - i
+
+loop-holds : tie.Need-loop-holds Inv-loop μ-loop
+loop-holds c = (search needs, sending-starts _ _ _ (search needs))
+
+shared-slice-read-t11 : tie.Need-shared-slice-read-t11 Inv-loop μ-loop
+shared-slice-read-t11 c = search needs
+
+perform-requires : tie.Need-perform-requires Inv-loop μ-loop
+perform-requires c κs = search needs
+
+add-i : tie.Need-add-i Inv-loop μ-loop
+add-i c = search needs
+
+loop-less : tie.Need-loop-less Inv-loop μ-loop
+loop-less c = search needs
+
+loop-again : tie.Need-loop-again Inv-loop μ-loop
+loop-again c = (
+  search needs,
+  let sent = c .before .before in
+      let turn = sent .before .before .before in
+      sending-more (turn .before .loop .inv .1) (turn .loop-test .taken) (sent .perform .ensures),
+)
+
+same-length : tie.Need-same-length Inv-loop μ-loop
+same-length c = search needs
+
+returns : tie.Need-returns Inv-loop μ-loop
+returns c = sending-done (c .before .loop .inv .1) (c .loop-test .left)
+
+pub send-all-spec : {M : Type 1} → statement M
+send-all-spec =
+    tie.close
+    (tie.spec
+    Inv-loop
+    μ-loop
+    loop-holds
+    shared-slice-read-t11
+    perform-requires
+    add-i
+    loop-less
+    loop-again
+    same-length
+    returns)

@@ -1,0 +1,17 @@
+use Rattle.qspi.specs.Phases.{startTransfer}
+use borrow.Author.Needs.{needs}
+use Rattle.qspi.proofs.phase.start_transfer.Statement.{statement}
+use Rattle.qspi.proofs.phase.start_transfer.Tie as tie
+
+change-requires : tie.Need-change-requires
+change-requires c κs = search needs
+
+same-length : tie.Need-same-length
+same-length c = search needs
+
+returns : tie.Need-returns
+unfolding startTransfer
+returns c = c .before .before .change .ensures
+
+pub start-transfer-spec : {M : Type 1} → statement M
+start-transfer-spec = tie.close (tie.spec change-requires same-length returns)

@@ -1,0 +1,3 @@
+pub mod Phases
+pub mod Of
+pub mod Does
