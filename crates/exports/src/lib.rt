@@ -2,6 +2,7 @@
 ghost use mathlib.Core.Path.{_≡_};
 ghost use Rattle.exports.specs.Limit.{defaultLimit};
 
+pub mod calls;
 pub mod clocks;
 
 // The limit of unready polls in one wait that the Rust has.

@@ -1,3 +1,5 @@
 pub mod Sequence
 pub mod Paced
 pub mod Bytes
+pub mod Bounds
+pub mod Windows

@@ -1,3 +1,4 @@
 pub mod Phases
 pub mod Of
 pub mod Does
+pub mod Bounds

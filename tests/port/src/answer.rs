@@ -1,6 +1,6 @@
 //! One case: read, run, written.
 
-use crate::exports;
+use crate::exports::{self, Ended, Lent};
 use crate::words::Words;
 use std::fmt::Write as _;
 use std::io::{self, BufRead, Write};
@@ -12,8 +12,8 @@ type Answer = fn(&mut Words, &mut String) -> Result<(), String>;
 const CASES: [(&str, Answer); 14] = [
     ("open", missing),
     ("free", missing),
-    ("write", missing),
-    ("read", missing),
+    ("write", write),
+    ("read", read),
     ("inplace", missing),
     ("transfer", missing),
     ("flush", missing),
@@ -29,6 +29,75 @@ const CASES: [(&str, Answer); 14] = [
 /// Answers a case that the port's library has no function for yet.
 fn missing(_: &mut Words, out: &mut String) -> Result<(), String> {
     out.push_str("missing\n");
+    Ok(())
+}
+
+/// What a log word holds before a call, so that one written past the last entry shows.
+const UNTOUCHED: u32 = 0x5AA5_C33C;
+
+/// Makes a call on a lent log and the answers that end the case, and writes the log, the end line and, if a word past the
+/// last entry no longer has its value, `changed`.
+fn call(
+    limit: u32,
+    log_words: usize,
+    w: &mut Words,
+    out: &mut String,
+    f: impl FnOnce(&mut Lent) -> Ended,
+) -> Result<(), String> {
+    let answers = w.list()?;
+    w.end()?;
+    let mut log = vec![UNTOUCHED; log_words];
+    let e = f(&mut Lent {
+        limit,
+        log: &mut log,
+        answers: &answers,
+    });
+    let (made, past) = log.split_at((e.entries * 2).min(log_words));
+    for entry in made.chunks_exact(2) {
+        let op = (entry[0] >> 16).checked_sub(1);
+        let letter = op
+            .and_then(|i| b"rwbgd".get(i as usize))
+            .map_or('?', |&b| char::from(b));
+        writeln!(out, "{letter} {:04x} {:08x}", entry[0] & 0xFFFF, entry[1])
+            .map_err(|e| e.to_string())?;
+    }
+    let Ended {
+        number,
+        entries,
+        taken,
+        polls,
+        longest,
+    } = e;
+    writeln!(out, "end {number} {entries} {taken} {polls} {longest}").map_err(|e| e.to_string())?;
+    if past.iter().any(|&word| word != UNTOUCHED) {
+        out.push_str("changed\n");
+    }
+    Ok(())
+}
+
+/// A line for each byte that is no longer what was given.
+fn changes(given: &[u8], now: &[u8], out: &mut String) {
+    for (i, (a, b)) in given.iter().zip(now).enumerate() {
+        if a != b {
+            let _ = writeln!(out, "m {i:08x} {b:02x}");
+        }
+    }
+}
+
+fn write(w: &mut Words, out: &mut String) -> Result<(), String> {
+    let (limit, log_words, bytes) = (w.u32()?, w.usize()?, w.bytes()?);
+    call(limit, log_words, w, out, |lent| {
+        exports::write(lent, &bytes)
+    })
+}
+
+fn read(w: &mut Words, out: &mut String) -> Result<(), String> {
+    let (limit, log_words, mut bytes) = (w.u32()?, w.usize()?, w.bytes()?);
+    let given = bytes.clone();
+    call(limit, log_words, w, out, |lent| {
+        exports::read(lent, &mut bytes)
+    })?;
+    changes(&given, &bytes, out);
     Ok(())
 }
 

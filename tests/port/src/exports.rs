@@ -11,6 +11,91 @@ unsafe extern "C" {
     );
     safe fn qspi_actual_sck(pll: u32, mod_div: u32, kind: u32, count: u32, rate: &mut u32) -> u32;
     safe fn qspi_dummy_bytes_for(hz: u32, tclqv_ns: u32, margin: u8) -> u8;
+    fn qspi_write(
+        limit: u32,
+        log: *mut u32,
+        log_len: usize,
+        answers: *const u32,
+        answers_len: usize,
+        bytes: *const u8,
+        bytes_len: usize,
+        entries: &mut usize,
+        taken: &mut usize,
+        polls: &mut usize,
+        longest: &mut u32,
+    ) -> u32;
+    fn qspi_read(
+        limit: u32,
+        log: *mut u32,
+        log_len: usize,
+        answers: *const u32,
+        answers_len: usize,
+        bytes: *mut u8,
+        bytes_len: usize,
+        entries: &mut usize,
+        taken: &mut usize,
+        polls: &mut usize,
+        longest: &mut u32,
+    ) -> u32;
+}
+
+/// How a call ended: its number and its four counts.
+#[derive(Clone, Copy, Debug, Default, PartialEq, Eq)]
+pub struct Ended {
+    pub number: u32,
+    pub entries: usize,
+    pub taken: usize,
+    pub polls: usize,
+    pub longest: u32,
+}
+
+/// What every call is lent: the limit, the log, the answers.
+pub struct Lent<'a> {
+    pub limit: u32,
+    pub log: &'a mut [u32],
+    pub answers: &'a [u32],
+}
+
+pub fn write(lent: &mut Lent, bytes: &[u8]) -> Ended {
+    let mut e = Ended::default();
+    // Pointers and lengths are those of slices.
+    e.number = unsafe {
+        qspi_write(
+            lent.limit,
+            lent.log.as_mut_ptr(),
+            lent.log.len(),
+            lent.answers.as_ptr(),
+            lent.answers.len(),
+            bytes.as_ptr(),
+            bytes.len(),
+            &mut e.entries,
+            &mut e.taken,
+            &mut e.polls,
+            &mut e.longest,
+        )
+    };
+    e
+}
+
+pub fn read(lent: &mut Lent, bytes: &mut [u8]) -> Ended {
+    let mut e = Ended::default();
+    // Pointers and lengths are those of slices.
+    e.number = unsafe {
+        qspi_read(
+            lent.limit,
+            lent.log.as_mut_ptr(),
+            lent.log.len(),
+            lent.answers.as_ptr(),
+            lent.answers.len(),
+            bytes.as_mut_ptr(),
+            bytes.len(),
+            &mut e.entries,
+            &mut e.taken,
+            &mut e.polls,
+            &mut e.longest,
+        )
+    };
+    e
 }
 
 /// The limit of unready polls in one wait that the Rust has.

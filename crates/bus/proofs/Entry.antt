@@ -1,0 +1,60 @@
+-- The calls as a user makes them: refused, or run from no entry and the first answer on.
+use mathlib.Core.Path.{_≡_, refl, sym, _∙_}
+use mathlib.Core.Bool.{Bool, true, false, cond}
+use mathlib.Core.List.{List, [], _∷_}
+use Prim.Native.Nat.{ℕ, _^_, _≤_, _<_}
+use native.Mathlib.Omega.{arith}
+use lib.Dec.{eqb, ltb}
+use borrow.Author.Tests.{ne-eqb, eqb-false, ltb-false}
+use Rattle.model.specs.State as model
+use Rattle.model.specs.State.{advance}
+use Rattle.access.specs.declared.progress.Progress.{Progress}
+use Rattle.access.specs.Of.{begun, withNumber}
+use Rattle.waits.specs.Does.{Does}
+use Rattle.qspi.specs.Does.{Runs}
+use Rattle.bus.specs.Calls.{Call, stepsOf, lengthsOf, tooLong, refusal, outcome}
+use Rattle.bus.specs.Does.{Refuses, Called, CalledOn}
+
+-- What is not refused has a limit and lengths that fit.
+pub accepted : {limit first second n : ℕ} → Refuses limit first second n → n ≡ 0 → (0 < limit) × (first < 2 ^ 24) × (second < 2 ^ 24)
+unfolding refusal tooLong
+accepted {limit} {first} {second} r z = by (eqb limit 0) (ltb 0xFFFFFF first) (ltb 0xFFFFFF second) refl refl refl (sym (r .is) ∙ z)
+  where
+    by : (a b c : Bool) → eqb limit 0 ≡ a → ltb 0xFFFFFF first ≡ b → ltb 0xFFFFFF second ≡ c → cond {A = ℕ} a 7 (cond b 6 (cond c 6 0)) ≡ 0
+        → (0 < limit) × (first < 2 ^ 24) × (second < 2 ^ 24)
+    by true b c e f g h = absurd (omega (arith, h))
+    by false true c e f g h = absurd (omega (arith, h))
+    by false false true e f g h = absurd (omega (arith, h))
+    by false false false e f g h =
+        let i : limit ≡ 0 → ⊥ = eqb-false _ _ e in
+        let j : first ≤ 0xFFFFFF = ltb-false _ _ f in
+        let k : second ≤ 0xFFFFFF = ltb-false _ _ g in
+        (omega arith, omega arith, omega arith)
+
+module _ (call : Call) {limit first second n : ℕ} (answers log : List ℕ) (r : Refuses limit first second n)
+    (same : refusal limit (first ∷ second ∷ []) ≡ refusal limit (lengthsOf call)) where
+  call-refused : (n ≡ 0 → ⊥) → (m : List ℕ) → model.withNumber n (model.begun log m) ≡ outcome call limit answers log m
+  unfolding outcome
+  call-refused i m =
+      let w : refusal limit (lengthsOf call) ≡ n = sym (r .is ∙ same) in
+      rw (w, ne-eqb _ _ i) refl
+
+  call-runs : n ≡ 0 → (m : List ℕ) → outcome call limit answers log m ≡ advance (stepsOf call) limit answers (model.begun log m)
+  unfolding outcome
+  call-runs z m =
+      let w : refusal limit (lengthsOf call) ≡ 0 = sym (r .is ∙ same) ∙ z in
+      rw w refl
+
+  module _ {p q : Progress} (i : n ≡ 0 → ⊥) (b : p ≡ begun) (e : q ≡ withNumber n p) where
+    pub refused-called : Called call limit answers log q log
+    refused-called = record { state = λ m. rw (e, b) (call-refused i m) }
+
+    pub refused-called-on : {m : List ℕ} → CalledOn call limit answers log m q log m
+    refused-called-on {m} = record { state = rw (e, b) (call-refused i m) }
+
+  module _ {p q : Progress} {log' : List ℕ} (z : n ≡ 0) (b : p ≡ begun) where
+    pub does-called : Does (stepsOf call) limit answers p log q log' → Called call limit answers log q log'
+    does-called d = record { state = λ m. (rw b at (d .state m)) ∙ sym (call-runs z m) }
+
+    pub runs-called-on : {m m' : List ℕ} → Runs (stepsOf call) limit answers p log m q log' m' → CalledOn call limit answers log m q log' m'
+    runs-called-on {m} d = record { state = (rw b at (d .state)) ∙ sym (call-runs z m) }

@@ -1,0 +1,3 @@
+// The calls of the bus as a user makes them: refused before any access, or run from no entry and the first answer on.
+pub mod refusal;
+pub mod spi_bus;

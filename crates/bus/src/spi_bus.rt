@@ -1,0 +1,28 @@
+// The bus trait's calls.
+ghost use Rattle.bus.specs.Calls.{Call};
+ghost use Rattle.bus.specs.Does.{Called, CalledOn};
+ghost use lib.ListN.{length};
+use super::refusal;
+use access::Progress;
+
+// Writes all the words on a single line.
+pub fn write(limit: u32, log: &mut [u32], answers: &[u32], words: &[u8]) -> Progress
+    ensures { λ r. ⌜ Called (Call.write (now (words .entry))) limit (now (answers .entry)) (now (log .entry)) r (now (log .exit)) ⌝ }
+{
+    let refused = refusal::refused(limit, words.len(), 0);
+    if refused != 0 {
+        return Progress::new().ended(refused);
+    }
+    qspi::phase::tx_phase(limit, Progress::new(), log, answers, words, true)
+}
+
+// Reads as many words as there is room for.
+pub fn read(limit: u32, log: &mut [u32], answers: &[u32], words: &mut [u8]) -> Progress
+    ensures { λ r. ⌜ CalledOn (Call.read (length (now (words .entry)))) limit (now (answers .entry)) (now (log .entry)) (now (words .entry)) r (now (log .exit)) (now (words .exit)) ⌝ }
+{
+    let refused = refusal::refused(limit, words.len(), 0);
+    if refused != 0 {
+        return Progress::new().ended(refused);
+    }
+    qspi::phase::rx_phase(limit, Progress::new(), log, answers, words)
+}
