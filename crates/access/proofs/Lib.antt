@@ -1,2 +1,3 @@
 pub mod Primitive
 pub mod Count
+pub mod Sequence

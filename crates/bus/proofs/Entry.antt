@@ -10,8 +10,7 @@ use Rattle.model.specs.State as model
 use Rattle.model.specs.State.{advance}
 use Rattle.access.specs.declared.progress.Progress.{Progress}
 use Rattle.access.specs.Of.{begun, withNumber}
-use Rattle.waits.specs.Does.{Does}
-use Rattle.qspi.specs.Does.{Runs}
+use Rattle.access.specs.Does.{Does, Runs}
 use Rattle.bus.specs.Calls.{Call, stepsOf, lengthsOf, tooLong, refusal, outcome}
 use Rattle.bus.specs.Does.{Refuses, Called, CalledOn}
 

@@ -1,26 +1,39 @@
 -- The calls: their steps, what is refused before them, and what a user is given for every input (document 01, "How a call ends").
-use mathlib.Core.Bool.{true, cond}
+use mathlib.Core.Bool.{Bool, true, cond}
 use mathlib.Core.List.{List, [], _∷_}
 use Prim.Native.Nat.{ℕ}
 use lib.Dec.{eqb, ltb}
 use lib.ListN.{length}
-use Rattle.model.specs.Steps.{Steps}
+use Rattle.model.specs.Wait.Cause.{start}
+use Rattle.model.specs.Steps.{Steps, waitFor}
 use Rattle.model.specs.State.{State, begun, withNumber, advance}
+use Rattle.config.specs.declared.config.WorkMode.{WorkMode}
 use Rattle.qspi.specs.Phases.{txPhase, rxPhase}
+use Rattle.mode.specs.Mode.{workMode}
+use Rattle.transfer.specs.Transfer.{transferSteps}
 
 -- What is received goes to the lent memory from index 0 on.
 pub data Call : Type 0 where
   write : List ℕ → Call
   read : ℕ → Call  -- the length
+  transfer : List ℕ → ℕ → Call  -- what is written, the length of what is read
+  flush : Call
+  setWorkMode : Bool → WorkMode → Call  -- the chip has QPI
 
 unfoldable pub stepsOf : Call → Steps
 stepsOf (write bytes) = txPhase true bytes
 stepsOf (read n) = rxPhase 0 n
+stepsOf (transfer bytes n) = transferSteps bytes 0 n
+stepsOf flush = waitFor start
+stepsOf (setWorkMode qpi mode) = workMode qpi mode
 
 -- the lengths that 6 is about
 unfoldable pub lengthsOf : Call → List ℕ
 lengthsOf (write bytes) = length bytes ∷ []
 lengthsOf (read n) = n ∷ []
+lengthsOf (transfer bytes n) = length bytes ∷ n ∷ []
+lengthsOf flush = []
+lengthsOf (setWorkMode qpi mode) = []
 
 -- 6 for a length above FFFFFF hex, else 0
 unfoldable pub tooLong : List ℕ → ℕ

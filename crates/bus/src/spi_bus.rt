@@ -26,3 +26,31 @@ pub fn read(limit: u32, log: &mut [u32], answers: &[u32], words: &mut [u8]) -> P
     }
     qspi::phase::rx_phase(limit, Progress::new(), log, answers, words)
 }
+
+// Writes all of `write`, then reads all of `read`.
+pub fn transfer(
+    limit: u32,
+    log: &mut [u32],
+    answers: &[u32],
+    read: &mut [u8],
+    write: &[u8],
+) -> Progress
+    ensures { λ r. ⌜ CalledOn (Call.transfer (now (write .entry)) (length (now (read .entry)))) limit (now (answers .entry)) (now (log .entry)) (now (read .entry)) r (now (log .exit)) (now (read .exit)) ⌝ }
+{
+    let refused = refusal::refused(limit, write.len(), read.len());
+    if refused != 0 {
+        return Progress::new().ended(refused);
+    }
+    transfer::transfer(limit, Progress::new(), log, answers, read, write)
+}
+
+// Waits for the transfer to complete.
+pub fn flush(limit: u32, log: &mut [u32], answers: &[u32]) -> Progress
+    ensures { λ r. ⌜ Called Call.flush limit (now (answers .entry)) (now (log .entry)) r (now (log .exit)) ⌝ }
+{
+    let refused = refusal::refused(limit, 0, 0);
+    if refused != 0 {
+        return Progress::new().ended(refused);
+    }
+    waits::wait_transfer_done(limit, Progress::new(), log, answers)
+}

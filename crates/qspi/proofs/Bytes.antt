@@ -21,13 +21,12 @@ use Rattle.model.proofs.Advance.{onto, ended, skipped}
 use Rattle.model.proofs.Next.{get-stored, get-stopped}
 use Rattle.access.specs.declared.progress.Progress.{Progress}
 use Rattle.access.specs.Of.{stateOf}
-use Rattle.access.specs.Does.{Sound, Acts, Asks}
+use Rattle.access.specs.Does.{Sound, Acts, Asks, Does, Runs, Gets}
 use Rattle.qspi.specs.Phases.{Move, moved, movedAll, paced, gots}
 use Rattle.qspi.specs.Phases.Move.{sent}
-use Rattle.waits.specs.Does.{Does, Waits}
-use Rattle.qspi.specs.Does.{Runs, Gets}
+use Rattle.waits.specs.Does.{Waits}
 use Rattle.qspi.proofs.Paced.{portion, paced-wait, portion-part, take-sent, drop-sent, length-gots, take-gots, drop-gots, all-inside}
-use Rattle.qspi.proofs.Sequence.{runs-part}
+use Rattle.access.proofs.Sequence.{runs-part}
 
 -- sending with no wait, after i bytes
 pub record Sending (bytes : List ℕ) (p : Progress) (log : List ℕ) (r : Progress) (log' : List ℕ) (i : ℕ) : Type 0 where

@@ -16,9 +16,9 @@ use Rattle.model.proofs.Frame.{then-inside}
 use Rattle.access.specs.declared.progress.Progress.{Progress}
 use Rattle.qspi.specs.Phases.{moved, paced, gots, resetFifos, programTransfer, startTransfer, beginTransfer, txPhase, rxPhase}
 use Rattle.qspi.specs.Phases.Move.{sent}
-use Rattle.qspi.specs.Does.{Runs}
+use Rattle.access.specs.Does.{Runs}
 use Rattle.qspi.proofs.Paced.{gots-inside}
-use Rattle.qspi.proofs.Sequence.{runs-part}
+use Rattle.access.proofs.Sequence.{runs-part}
 
 module _ {at n : ℕ} where
   pub change-inside : (place : ℕ) (f : ℕ → ℕ) → Inside at n (change place f) (change place f)

@@ -1,4 +1,2 @@
 pub mod Phases
-pub mod Of
-pub mod Does
 pub mod Bounds

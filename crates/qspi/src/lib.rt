@@ -1,7 +1,5 @@
-// The phases of a transfer on an answered register block, from blocking.rs: changes of registers, bytes, phases.
-pub mod change;
+// The phases of a transfer on an answered register block, from blocking.rs: counts, bytes, phases.
 pub mod counts;
 pub mod phase;
 
-pub use change::Change;
 pub use counts::TransferCounts;

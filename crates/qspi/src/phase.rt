@@ -4,39 +4,22 @@ ghost use mathlib.Core.List.{map};
 ghost use Prim.Native.Nat.{_^_, _<_, min};
 ghost use lib.ListN.{length};
 ghost use Rattle.model.specs.Wait.Cause.{space, received};
-ghost use Rattle.access.specs.Does.{Sound, Acts};
+ghost use Rattle.access.specs.Does.{Sound, Acts, Does, Works, Runs, Gets};
 ghost use Rattle.qspi.specs.Phases.{resetFifos, programTransfer, startTransfer, beginTransfer, movedAll, paced, gots, txPhase, rxPhase};
 ghost use Rattle.qspi.specs.Phases.Move.{sent};
-ghost use Rattle.qspi.specs.Of.{changeOf};
-ghost use Rattle.waits.specs.Does.{Does};
-ghost use Rattle.qspi.specs.Does.{Works, Runs, Gets};
-use super::change::Change;
 use super::counts::TransferCounts;
 use access::Act;
 use access::Ask;
 use access::Cause;
 use access::Progress;
-
-// One read and one write at a register.
-pub fn change(progress: Progress, log: &mut [u32], answers: &[u32], change: Change) -> Progress
-    requires { ⌜ Sound progress ⌝ }
-    ensures { λ r. ⌜ Works (changeOf change) (now (answers .entry)) progress (now (log .entry)) r (now (log .exit)) ⌝ }
-{
-    let place = change.place();
-    let read = access::entry::query(progress, log, answers, Ask::Register(place));
-    access::entry::perform(
-        read.progress,
-        log,
-        Act::Write(place, change.apply(read.word)),
-    )
-}
+use changes::Change;
 
 // Resets both FIFOs before a new transfer.
 pub fn reset_fifos(progress: Progress, log: &mut [u32], answers: &[u32]) -> Progress
     requires { ⌜ Sound progress ⌝ }
     ensures { λ r. ⌜ Works resetFifos (now (answers .entry)) progress (now (log .entry)) r (now (log .exit)) ⌝ }
 {
-    let reset = change(progress, log, answers, Change::ResetFifos);
+    let reset = changes::modify(progress, log, answers, Change::ResetFifos);
     access::entry::perform(reset, log, Act::Delay(10))
 }
 
@@ -50,13 +33,13 @@ fn program_transfer(
     requires { ⌜ Sound progress ⌝ }
     ensures { λ r. ⌜ Works (programTransfer (counts .total) (counts .tx) (counts .«single_line_tx») (counts .«hardware_dummy»)) (now (answers .entry)) progress (now (log .entry)) r (now (log .exit)) ⌝ }
 {
-    let first = change(progress, log, answers, Change::TotalBytes(counts.total));
-    let second = change(first, log, answers, Change::TxCount(counts.tx));
-    change(
+    let first = changes::modify(progress, log, answers, Change::TotalBytes(counts.total));
+    let second = changes::modify(first, log, answers, Change::TxCount(counts.tx));
+    changes::modify(
         second,
         log,
         answers,
-        Change::Lines(counts.single_line_tx, counts.hardware_dummy),
+        Change::SingleLine(counts.single_line_tx, counts.hardware_dummy),
     )
 }
 
@@ -65,7 +48,7 @@ fn start_transfer(progress: Progress, log: &mut [u32], answers: &[u32]) -> Progr
     requires { ⌜ Sound progress ⌝ }
     ensures { λ r. ⌜ Works startTransfer (now (answers .entry)) progress (now (log .entry)) r (now (log .exit)) ⌝ }
 {
-    change(progress, log, answers, Change::Start)
+    changes::modify(progress, log, answers, Change::Start)
 }
 
 fn begin_transfer(

@@ -1,4 +1,4 @@
--- What a function of the driver promises: from the progress p and the log at entry to the progress r and the log at exit.
+-- What a wait promises: from the progress p and the log at entry to the progress r and the log at exit.
 use mathlib.Core.Path.{_≡_}
 use mathlib.Core.Bool.{true}
 use mathlib.Core.List.{List}
@@ -11,11 +11,6 @@ use Rattle.model.specs.State.{advance}
 use Rattle.access.specs.declared.progress.Progress.{Progress}
 use Rattle.access.specs.Of.{stateOf}
 use Rattle.access.specs.Does.{Sound}
-
--- The steps were done, whatever the memory, which they leave as it is.
-pub record Does (s : Steps) (limit : ℕ) (answers : List ℕ) (p : Progress) (log : List ℕ) (r : Progress) (log' : List ℕ) : Type 0 where
-  pub sound : Sound r
-  pub state : (m : List ℕ) → stateOf r log' m ≡ advance s limit answers (stateOf p log m)
 
 -- A wait was done. What follows goes on with `count`, which is that of a ready word; without one it is 0, and the number is not 0.
 pub record Waits (c : Cause) (limit : ℕ) (answers : List ℕ) (p : Progress) (log : List ℕ) (r : Progress) (log' : List ℕ) (count : ℕ) : Type 0 where

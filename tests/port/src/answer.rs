@@ -15,8 +15,8 @@ const CASES: [(&str, Answer); 14] = [
     ("write", write),
     ("read", read),
     ("inplace", missing),
-    ("transfer", missing),
-    ("flush", missing),
+    ("transfer", transfer),
+    ("flush", flush),
     ("mode", missing),
     ("quadread", missing),
     ("quadwrite", missing),
@@ -99,6 +99,22 @@ fn read(w: &mut Words, out: &mut String) -> Result<(), String> {
     })?;
     changes(&given, &bytes, out);
     Ok(())
+}
+
+fn transfer(w: &mut Words, out: &mut String) -> Result<(), String> {
+    let (limit, log_words) = (w.u32()?, w.usize()?);
+    let (mut bytes, sent) = (w.bytes()?, w.bytes()?);
+    let given = bytes.clone();
+    call(limit, log_words, w, out, |lent| {
+        exports::transfer(lent, &mut bytes, &sent)
+    })?;
+    changes(&given, &bytes, out);
+    Ok(())
+}
+
+fn flush(w: &mut Words, out: &mut String) -> Result<(), String> {
+    let (limit, log_words) = (w.u32()?, w.usize()?);
+    call(limit, log_words, w, out, exports::flush)
 }
 
 fn clock(w: &mut Words, out: &mut String) -> Result<(), String> {

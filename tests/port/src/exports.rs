@@ -37,6 +37,32 @@ unsafe extern "C" {
         polls: &mut usize,
         longest: &mut u32,
     ) -> u32;
+    fn qspi_transfer(
+        limit: u32,
+        log: *mut u32,
+        log_len: usize,
+        answers: *const u32,
+        answers_len: usize,
+        read: *mut u8,
+        read_len: usize,
+        write: *const u8,
+        write_len: usize,
+        entries: &mut usize,
+        taken: &mut usize,
+        polls: &mut usize,
+        longest: &mut u32,
+    ) -> u32;
+    fn qspi_flush(
+        limit: u32,
+        log: *mut u32,
+        log_len: usize,
+        answers: *const u32,
+        answers_len: usize,
+        entries: &mut usize,
+        taken: &mut usize,
+        polls: &mut usize,
+        longest: &mut u32,
+    ) -> u32;
 }
 
 /// How a call ended: its number and its four counts.
@@ -89,6 +115,48 @@ pub fn read(lent: &mut Lent, bytes: &mut [u8]) -> Ended {
             lent.answers.len(),
             bytes.as_mut_ptr(),
             bytes.len(),
+            &mut e.entries,
+            &mut e.taken,
+            &mut e.polls,
+            &mut e.longest,
+        )
+    };
+    e
+}
+
+pub fn transfer(lent: &mut Lent, read: &mut [u8], write: &[u8]) -> Ended {
+    let mut e = Ended::default();
+    // Pointers and lengths are those of slices.
+    e.number = unsafe {
+        qspi_transfer(
+            lent.limit,
+            lent.log.as_mut_ptr(),
+            lent.log.len(),
+            lent.answers.as_ptr(),
+            lent.answers.len(),
+            read.as_mut_ptr(),
+            read.len(),
+            write.as_ptr(),
+            write.len(),
+            &mut e.entries,
+            &mut e.taken,
+            &mut e.polls,
+            &mut e.longest,
+        )
+    };
+    e
+}
+
+pub fn flush(lent: &mut Lent) -> Ended {
+    let mut e = Ended::default();
+    // Pointers and lengths are those of slices.
+    e.number = unsafe {
+        qspi_flush(
+            lent.limit,
+            lent.log.as_mut_ptr(),
+            lent.log.len(),
+            lent.answers.as_ptr(),
+            lent.answers.len(),
             &mut e.entries,
             &mut e.taken,
             &mut e.polls,

@@ -1,5 +1,5 @@
 use Rattle.qspi.specs.Phases.{beginTransfer}
-use Rattle.qspi.proofs.Sequence.{then-works}
+use Rattle.access.proofs.Sequence.{then-works}
 use borrow.Author.Needs.{needs}
 use Rattle.qspi.proofs.phase.begin_transfer.Statement.{statement}
 use Rattle.qspi.proofs.phase.begin_transfer.Tie as tie

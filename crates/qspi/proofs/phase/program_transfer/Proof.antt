@@ -1,17 +1,17 @@
 use Rattle.qspi.specs.Phases.{programTransfer}
-use Rattle.qspi.proofs.Sequence.{then-works}
+use Rattle.access.proofs.Sequence.{then-works}
 use borrow.Author.Needs.{needs}
 use Rattle.qspi.proofs.phase.program_transfer.Statement.{statement}
 use Rattle.qspi.proofs.phase.program_transfer.Tie as tie
 
-change-requires : tie.Need-change-requires
-change-requires c κs = search needs
+modify-requires : tie.Need-modify-requires
+modify-requires c κs = search needs
 
-change-requires-2 : tie.Need-change-requires-2
-change-requires-2 c κs = search needs
+modify-requires-2 : tie.Need-modify-requires-2
+modify-requires-2 c κs = search needs
 
-change-requires-3 : tie.Need-change-requires-3
-change-requires-3 c κs = search needs
+modify-requires-3 : tie.Need-modify-requires-3
+modify-requires-3 c κs = search needs
 
 same-length : tie.Need-same-length
 same-length c = search needs
@@ -22,8 +22,8 @@ returns c =
     let third = c .before .before in
     let second = third .before .before .before .before in
     let first = second .before .before .before .before in
-    then-works (first .change .ensures) (then-works (second .change2 .ensures) (third .change3 .ensures))
+    then-works (first .modify .ensures) (then-works (second .modify2 .ensures) (third .modify3 .ensures))
 
 pub program-transfer-spec : {M : Type 1} → statement M
 program-transfer-spec =
-    tie.close (tie.spec change-requires change-requires-2 change-requires-3 same-length returns)
+    tie.close (tie.spec modify-requires modify-requires-2 modify-requires-3 same-length returns)

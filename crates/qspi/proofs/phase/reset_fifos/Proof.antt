@@ -1,11 +1,11 @@
 use Rattle.qspi.specs.Phases.{resetFifos}
-use Rattle.qspi.proofs.Sequence.{acts-works, then-works}
+use Rattle.access.proofs.Sequence.{acts-works, then-works}
 use borrow.Author.Needs.{needs}
 use Rattle.qspi.proofs.phase.reset_fifos.Statement.{statement}
 use Rattle.qspi.proofs.phase.reset_fifos.Tie as tie
 
-change-requires : tie.Need-change-requires
-change-requires c κs = search needs
+modify-requires : tie.Need-modify-requires
+modify-requires c κs = search needs
 
 perform-requires : tie.Need-perform-requires
 perform-requires c κs = search needs
@@ -18,7 +18,7 @@ unfolding resetFifos
 returns c =
     let waited = c .before .before in
     let changed = waited .before .before .before .before in
-    then-works (changed .change .ensures) (acts-works (waited .perform .ensures))
+    then-works (changed .modify .ensures) (acts-works (waited .perform .ensures))
 
 pub reset-fifos-spec : {M : Type 1} → statement M
-reset-fifos-spec = tie.close (tie.spec change-requires perform-requires same-length returns)
+reset-fifos-spec = tie.close (tie.spec modify-requires perform-requires same-length returns)

@@ -1,5 +1,6 @@
 use Prim.Native.Nat.{_<_}
-use Rattle.qspi.proofs.Sequence.{then-runs, does-runs, rx-none, rx-some}
+use Rattle.access.proofs.Sequence.{then-runs, does-runs}
+use Rattle.qspi.proofs.Sequence.{rx-none, rx-some}
 use borrow.Author.Needs.{needs}
 use Rattle.qspi.proofs.phase.rx_phase.Statement.{statement}
 use Rattle.qspi.proofs.phase.rx_phase.Tie as tie

@@ -1,4 +1,4 @@
-use Rattle.waits.proofs.Sequence.{then-does}
+use Rattle.access.proofs.Sequence.{then-does}
 use Rattle.qspi.proofs.Sequence.{tx-none, tx-some}
 use mathlib.Core.Path.{_∙_}
 use Prim.Native.Nat.{_<_}

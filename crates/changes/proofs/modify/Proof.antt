@@ -1,7 +1,7 @@
-use Rattle.qspi.proofs.Sequence.{changes}
+use Rattle.changes.proofs.Changes.{changes}
 use borrow.Author.Needs.{needs}
-use Rattle.qspi.proofs.phase.change.Statement.{statement}
-use Rattle.qspi.proofs.phase.change.Tie as tie
+use Rattle.changes.proofs.modify.Statement.{statement}
+use Rattle.changes.proofs.modify.Tie as tie
 
 place-requires : tie.Need-place-requires
 place-requires c κs = search needs
@@ -24,7 +24,7 @@ returns c =
     let read = written .before .before .before .before .before in
     rw (← read .before .before .place .ensures) (changes _ _ (written .before .apply .ensures) (read .query .ensures) (written .perform .ensures))
 
-pub change-spec : {M : Type 1} → statement M
-change-spec =
+pub modify-spec : {M : Type 1} → statement M
+modify-spec =
     tie.close
     (tie.spec place-requires query-requires apply-requires perform-requires same-length returns)

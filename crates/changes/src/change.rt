@@ -1,6 +1,6 @@
-// Changes of a register: one read and one write at its place.
+// What is changed, at which place, and how.
 ghost use mathlib.Core.Path.{_≡_};
-ghost use Rattle.qspi.specs.Of.{changedAt, changed};
+ghost use Rattle.changes.specs.Of.{changedAt, changed};
 use registers::FifoControl;
 use registers::TotalBytesCnt;
 use registers::TransCnt;
@@ -15,9 +15,21 @@ pub enum Change {
     // The bytes to send.
     TxCount(u32),
     // The bytes to send on a single line, and the hardware's dummy bytes.
-    Lines(u32, u8),
+    SingleLine(u32, u8),
     // START set.
     Start,
+    // One data line.
+    OneLine,
+    // Two data lines.
+    TwoLines,
+    // Four data lines.
+    FourLines,
+    // Three-wire on.
+    ThreeWire,
+    // Three-wire off.
+    NotThreeWire,
+    // QPI on.
+    Qpi,
 }
 
 impl Change {
@@ -28,8 +40,14 @@ impl Change {
             Change::ResetFifos => 0x018,
             Change::TotalBytes(_) => 0x030,
             Change::TxCount(_) => 0x034,
-            Change::Lines(_, _) => 0x038,
+            Change::SingleLine(_, _) => 0x038,
             Change::Start => 0x008,
+            Change::OneLine => 0x038,
+            Change::TwoLines => 0x038,
+            Change::FourLines => 0x038,
+            Change::ThreeWire => 0x008,
+            Change::NotThreeWire => 0x008,
+            Change::Qpi => 0x038,
         }
     }
 
@@ -41,11 +59,17 @@ impl Change {
             Change::ResetFifos => FifoControl(word).reset_tx_fifo().reset_rx_fifo().0,
             Change::TotalBytes(bytes) => TotalBytesCnt(word).set_total_bytes(bytes).0,
             Change::TxCount(cnt) => TransCnt(word).set_tx_cnt(cnt).0,
-            Change::Lines(single, dummy) => TransMiscControl(word)
+            Change::SingleLine(single, dummy) => TransMiscControl(word)
                 .set_single_tx_count(single)
                 .set_dummy_count(dummy)
                 .0,
             Change::Start => TransferConfig(word).set_start(true).0,
+            Change::OneLine => TransMiscControl(word).disable_quad().disable_dual().0,
+            Change::TwoLines => TransMiscControl(word).disable_quad().enable_dual().0,
+            Change::FourLines => TransMiscControl(word).enable_quad().disable_dual().0,
+            Change::ThreeWire => TransferConfig(word).enable_three_wire().0,
+            Change::NotThreeWire => TransferConfig(word).disable_three_wire().0,
+            Change::Qpi => TransMiscControl(word).enable_quad().enable_qpi().0,
         }
     }
 }

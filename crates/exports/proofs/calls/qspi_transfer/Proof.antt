@@ -1,0 +1,23 @@
+use Rattle.exports.proofs.Counts.{called-gives-on}
+use borrow.Author.Needs.{needs}
+use Rattle.exports.proofs.calls.qspi_transfer.Statement.{statement}
+use Rattle.exports.proofs.calls.qspi_transfer.Tie as tie
+
+transfer-requires : tie.Need-transfer-requires
+transfer-requires c κs = search needs
+
+tell-requires : tie.Need-tell-requires
+tell-requires c κs = search needs
+
+same-length : tie.Need-same-length
+same-length c = search needs
+
+same-length-2 : tie.Need-same-length-2
+same-length-2 c = search needs
+
+returns : tie.Need-returns
+returns c = called-gives-on (c .tell .ensures) (c .before .before .before .before .before .before .before .before .before .transfer .ensures)
+
+pub qspi-transfer-spec : {M : Type 1} → statement M
+qspi-transfer-spec =
+    tie.close (tie.spec transfer-requires tell-requires same-length same-length-2 returns)
