@@ -173,12 +173,12 @@ mod tests {
     #[test]
     fn names_and_ends() {
         let mut out = Vec::new();
-        let input = "# a comment\n\nflush 3 100 0\nflash 1\nclock 24000000 10000000\n";
+        let input = "# a comment\n\nfree 0 100 0\nflush 3 100 0\nflash 1\nclock 24000000 10000000\n";
         answer_all(input.as_bytes(), &mut out).unwrap();
         let text = String::from_utf8(out).unwrap();
         assert_eq!(
             text,
-            "missing\n.\nerror flash is no case\n.\nclock 2 1 0 8000000\n.\n"
+            "missing\n.\nend 11 0 0 0 0\n.\nerror flash is no case\n.\nclock 2 1 0 8000000\n.\n"
         );
     }
 }
