@@ -173,7 +173,8 @@ mod tests {
     #[test]
     fn names_and_ends() {
         let mut out = Vec::new();
-        let input = "# a comment\n\nfree 0 100 0\nflush 3 100 0\nflash 1\nclock 24000000 10000000\n";
+        let input =
+            "# a comment\n\nfree 0 100 0\nflush 3 100 0\nflash 1\nclock 24000000 10000000\n";
         answer_all(input.as_bytes(), &mut out).unwrap();
         let text = String::from_utf8(out).unwrap();
         assert_eq!(
