@@ -10,7 +10,7 @@ use Rattle.model.specs.State as model
 use Rattle.model.specs.State.{advance}
 use Rattle.access.specs.declared.progress.Progress.{Progress}
 use Rattle.access.specs.Of.{begun, withNumber}
-use Rattle.access.specs.Does.{Does, Runs}
+use Rattle.access.specs.Does.{Sound, Does, Runs}
 use Rattle.bus.specs.Calls.{Call, stepsOf, lengthsOf, tooLong, refusal, outcome}
 use Rattle.bus.specs.Does.{Refuses, Called, CalledOn}
 
@@ -29,6 +29,10 @@ accepted {limit} {first} {second} r z = by (eqb limit 0) (ltb 0xFFFFFF first) (l
         let j : first ≤ 0xFFFFFF = ltb-false _ _ f in
         let k : second ≤ 0xFFFFFF = ltb-false _ _ g in
         (omega arith, omega arith, omega arith)
+
+-- What a call's first step asks for.
+pub begins : {limit first second n : ℕ} {p : Progress} → Refuses limit first second n → n ≡ 0 → p ≡ begun → Sound p × (0 < limit)
+begins r z b = (rw b (omega arith), accepted r z .0)
 
 module _ (call : Call) {limit first second n : ℕ} (answers log : List ℕ) (r : Refuses limit first second n)
     (same : refusal limit (first ∷ second ∷ []) ≡ refusal limit (lengthsOf call)) where

@@ -64,7 +64,7 @@ fn begin_transfer(
     start_transfer(programmed, log, answers)
 }
 
-pub fn least(a: usize, b: usize) -> usize
+fn least(a: usize, b: usize) -> usize
     ensures { λ r. ⌜ r ≡ min a b ⌝ }
 {
     if a < b { a } else { b }

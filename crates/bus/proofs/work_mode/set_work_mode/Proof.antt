@@ -1,7 +1,6 @@
-use Rattle.bus.proofs.Entry.{accepted, refused-called, does-called}
+use Rattle.bus.proofs.Entry.{begins, refused-called, does-called}
 use Rattle.bus.specs.Calls.Call.{setWorkMode}
 use Rattle.bus.specs.Calls.{stepsOf, lengthsOf, tooLong, refusal}
-use native.Mathlib.Omega.{arith}
 use mathlib.Core.Path.{refl}
 use borrow.Author.Needs.{needs}
 use Rattle.bus.proofs.work_mode.set_work_mode.Statement.{statement}
@@ -24,10 +23,7 @@ new-requires-2 : tie.Need-new-requires-2
 new-requires-2 c κs = search needs
 
 set-work-mode-requires : tie.Need-set-work-mode-requires
-set-work-mode-requires c κs =
-    let test = c .before .before in
-    let ok = accepted (test .before .refused .ensures) (test .if1 .left) in
-    (rw (c .before .new2 .ensures) (omega arith), ok .0)
+set-work-mode-requires c κs = let test = c .before .before in begins (test .before .refused .ensures) (test .if1 .left) (c .before .new2 .ensures)
 
 same-length : tie.Need-same-length
 same-length c = search needs
