@@ -6,6 +6,7 @@ pub mod Carries
 pub mod Then
 pub mod Limit
 pub mod Advance
+pub mod Called
 pub mod Entry
 pub mod Next
 pub mod Finally

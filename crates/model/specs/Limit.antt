@@ -7,7 +7,7 @@ use Prim.Native.Nat.{ℕ, _<_}
 use Rattle.model.specs.Tally.{longestOf}
 use Rattle.model.specs.Steps.{Steps}
 use Rattle.model.specs.Run.{Outcome, run}
-use Rattle.model.specs.State.{State, begun, advance}
+use Rattle.model.specs.State.{State, begun, advance, called}
 
 -- done or unsupported
 abbrev pub Ended : ℕ → Type 0
@@ -42,3 +42,11 @@ abbrev pub AnotherLimitCall : Type 0
 AnotherLimitCall =
     (s : Steps) (limit limit' : ℕ) (answers more log m : List ℕ) → 0 < limit' → Ended (advance s limit answers (begun log m) .number)
     → AgainCall limit' (advance s limit answers (begun log m)) (advance s limit' (answers ++ more) (begun log m))
+
+-- The same of a call that may be refused: `refusedAt` is its refusal at a limit, which no other limit from 1 up adds to, and which is never 2.
+abbrev pub AnotherLimitCalled : Type 0
+AnotherLimitCalled =
+    (refusedAt : ℕ → ℕ) (s : Steps) (limit limit' : ℕ) (answers more log m : List ℕ)
+    → (refusedAt limit ≡ 0 → refusedAt limit' ≡ 0) → (refusedAt limit ≡ 2 → ⊥) → 0 < limit'
+    → Ended (called (refusedAt limit) s limit answers log m .number)
+    → AgainCall limit' (called (refusedAt limit) s limit answers log m) (called (refusedAt limit') s limit' (answers ++ more) log m)

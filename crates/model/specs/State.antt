@@ -56,3 +56,8 @@ onward f answers st =
 -- The steps from a state.
 unfoldable pub advance : Steps → ℕ → List ℕ → State → State
 advance s limit answers st = onward (run s limit false) answers st
+
+-- A call as its user sees it: a refusal leaves counts of 0, and the log and the memory as they were; else the steps run from no entry on.
+unfoldable pub called : ℕ → Steps → ℕ → List ℕ → List ℕ → List ℕ → State
+called refused s limit answers log m =
+    cond (eqb refused 0) (advance s limit answers (begun log m)) (withNumber refused (begun log m))
