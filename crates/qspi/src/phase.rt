@@ -64,7 +64,8 @@ fn begin_transfer(
     start_transfer(programmed, log, answers)
 }
 
-fn least(a: usize, b: usize) -> usize
+// The smaller of two numbers.
+pub fn least(a: usize, b: usize) -> usize
     ensures { λ r. ⌜ r ≡ min a b ⌝ }
 {
     if a < b { a } else { b }

@@ -1,0 +1,2 @@
+pub mod Quad
+pub mod Frames

@@ -1,0 +1,95 @@
+-- A transfer in place: one part, and what is left after i bytes.
+use mathlib.Core.Path.{_≡_, refl, ap, sym, _∙_}
+use mathlib.Core.List.{List, _++_}
+use Prim.Native.Nat.{ℕ, suc, _+_, _-_, _/_, _≤_, _<_, min}
+use native.Mathlib.Omega.{arith}
+use native.Mathlib.Nat.{add-zero}
+use lib.ListN.{length, take, drop, length-take, length-drop, length-append}
+use lib.Seq.{take-length, take-append-seam, drop-append-seam}
+use Rattle.model.specs.Steps.{Steps, then}
+use Rattle.model.specs.State.{advance}
+use Rattle.model.specs.Frame.{Inside}
+use Rattle.model.specs.Frame.Inside.{looks}
+use Rattle.model.proofs.Advance.{onto, ended, skipped}
+use Rattle.model.proofs.Frame.{then-inside}
+use Rattle.model.proofs.Next.{look-next}
+use Rattle.access.specs.declared.progress.Progress.{Progress}
+use Rattle.access.specs.Of.{stateOf}
+use Rattle.access.specs.Does.{Sound, Runs}
+use Rattle.access.proofs.Sequence.{runs-part}
+use Rattle.qspi.proofs.Windows.{tx-inside, rx-inside}
+use Rattle.transfer.specs.Transfer.{transferSteps, partSteps, parts, inPlaceSteps}
+
+-- what was copied is the part
+pub sent-part : {part temp' : List ℕ} {len : ℕ} (temp : List ℕ) → len ≡ length part → temp' ≡ take (length part) part ++ drop (length part) temp
+    → take len temp' ≡ part
+sent-part {part} temp e c = rw (c, e, take-length part) (take-append-seam part (drop (length part) temp))
+
+-- The bytes sent are those of the part.
+pub part-runs : {limit : ℕ} {answers : List ℕ} {p r : Progress} {log log' part part' bytes : List ℕ} → bytes ≡ part
+    → Runs (transferSteps bytes 0 (length part)) limit answers p log part r log' part'
+    → Runs (partSteps 0 (length part)) limit answers p log part r log' part'
+unfolding partSteps
+part-runs {limit} {answers} {p} {log = log} {part = part} e f =
+    record { sound = f .sound; state = f .state ∙ sym (look-next _ limit answers (stateOf p log part) ∙ rw (take-length part, e) refl) }
+
+-- a part stands in the whole memory as it stands by itself
+part-inside : (at n : ℕ) → Inside at n (partSteps at n) (partSteps 0 n)
+unfolding partSteps transferSteps
+part-inside at n = looks inside
+  where
+    inside : (before m behind : List ℕ) → length before ≡ at → length m ≡ n
+        → Inside at n (transferSteps (take n (drop at (before ++ (m ++ behind)))) at n) (transferSteps (take n (drop 0 m)) 0 n)
+    inside before m behind b l =
+        rw (← b, ← l, drop-append-seam before (m ++ behind), take-append-seam m behind, take-length m)
+        (then-inside (tx-inside _ m) (rw add-zero at (rx-inside {at = length before} {n = length m} 0 (length m) (omega arith))))
+
+-- exchanging, after i bytes
+pub record Exchanging (buf : List ℕ) (limit : ℕ) (answers : List ℕ) (p : Progress) (log : List ℕ) (r : Progress) (log' buf' : List ℕ) (i : ℕ) : Type 0 where
+  pub same : length buf' ≡ length buf
+  pub within : i ≤ length buf
+  pub sound : Sound r
+  pub state :
+      advance (inPlaceSteps 0 (length buf)) limit answers (stateOf p log buf)
+      ≡ advance (inPlaceSteps i (length buf - i)) limit answers (stateOf r log' buf')
+
+pub exchanging-starts : (buf : List ℕ) (limit : ℕ) (answers : List ℕ) (p : Progress) (log : List ℕ) → Sound p
+    → Exchanging buf limit answers p log p log buf 0
+exchanging-starts buf limit answers p log few =
+    let e : length buf - 0 ≡ length buf = omega arith in
+    record { same = refl; within = omega arith; sound = few; state = rw e refl }
+
+parts-next : (i n len : ℕ) → i < n → len ≡ min 256 (n - i)
+    → inPlaceSteps i (n - i) ≡ then (partSteps i len) (inPlaceSteps (i + len) (n - (i + len)))
+unfolding inPlaceSteps parts
+parts-next i n len h e =
+    let f : n - i - len ≡ n - (i + len) = omega arith in
+    let g : (n - i + 255) / 256 ≡ suc ((n - (i + len) + 255) / 256) = omega arith in
+    rw (g, ← e, f) refl
+
+module _ {buf buf' answers : List ℕ} {limit : ℕ} {p r : Progress} {log log' : List ℕ} {i : ℕ} (on : Exchanging buf limit answers p log r log' buf' i) where
+  pub exchanging-more : (len : ℕ) {t : Progress} {log'' part' : List ℕ} → i < length buf → len ≡ min 256 (length buf - i)
+      → length part' ≡ length (take len (drop i buf'))
+      → Runs (partSteps 0 (length (take len (drop i buf')))) limit answers r log' (take len (drop i buf')) t log'' part'
+      → Exchanging buf limit answers p log t log'' (take i buf' ++ (part' ++ drop len (drop i buf'))) (i + len)
+  exchanging-more len h e k f =
+      let s = on .same in
+      let l : length (take len (drop i buf')) ≡ len = simp (length-take, length-drop) (omega arith) in
+      record {
+        same = simp (length-append, length-take, length-drop) (omega arith);
+        within = omega arith;
+        sound = f .sound;
+        state =
+            onto _ _ limit answers (stateOf r log' buf')
+            (on .state ∙ ap (λ s. advance s limit answers (stateOf r log' buf')) (parts-next i (length buf) len h e))
+            (runs-part (partSteps i len) (partSteps 0 len) i len (omega arith) (part-inside i len) (rw l at f) .state);
+      }
+
+  pub exchanging-stops : (r .number ≡ 0 → ⊥) → Runs (inPlaceSteps 0 (length buf)) limit answers p log buf r log' buf'
+  exchanging-stops n = record { sound = on .sound; state = sym (on .state ∙ skipped _ limit answers _ n) }
+
+  pub exchanging-done : length buf ≤ i → Runs (inPlaceSteps 0 (length buf)) limit answers p log buf r log' buf'
+  unfolding inPlaceSteps parts
+  exchanging-done h =
+      let e : length buf - i ≡ 0 = omega arith in
+      record { sound = on .sound; state = sym (on .state ∙ rw e (ended limit answers _)) }
