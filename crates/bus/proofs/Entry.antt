@@ -5,12 +5,12 @@ use mathlib.Core.List.{List, [], _∷_}
 use Prim.Native.Nat.{ℕ, _^_, _≤_, _<_}
 use native.Mathlib.Omega.{arith}
 use lib.Dec.{eqb, ltb}
-use borrow.Author.Tests.{ne-eqb, eqb-false, ltb-false}
-use Rattle.model.specs.State as model
-use Rattle.model.specs.State.{advance}
+use borrow.Author.Tests.{eqb-false, ltb-false}
+use Rattle.model.proofs.Called.{called-refused, called-runs}
 use Rattle.access.specs.declared.progress.Progress.{Progress}
-use Rattle.access.specs.Of.{begun, withNumber}
+use Rattle.access.specs.Of.{stateOf, begun, withNumber}
 use Rattle.access.specs.Does.{Sound, Does, Runs}
+use Rattle.access.proofs.Sequence.{does-runs}
 use Rattle.bus.specs.Calls.{Call, stepsOf, lengthsOf, tooLong, refusal, outcome}
 use Rattle.bus.specs.Does.{Refuses, Called, CalledOn}
 
@@ -36,28 +36,24 @@ begins r z b = (rw b (omega arith), accepted r z .0)
 
 module _ (call : Call) {limit first second n : ℕ} (answers log : List ℕ) (r : Refuses limit first second n)
     (same : refusal limit (first ∷ second ∷ []) ≡ refusal limit (lengthsOf call)) where
-  call-refused : (n ≡ 0 → ⊥) → (m : List ℕ) → model.withNumber n (model.begun log m) ≡ outcome call limit answers log m
-  unfolding outcome
-  call-refused i m =
-      let w : refusal limit (lengthsOf call) ≡ n = sym (r .is ∙ same) in
-      rw (w, ne-eqb _ _ i) refl
-
-  call-runs : n ≡ 0 → (m : List ℕ) → outcome call limit answers log m ≡ advance (stepsOf call) limit answers (model.begun log m)
-  unfolding outcome
-  call-runs z m =
-      let w : refusal limit (lengthsOf call) ≡ 0 = sym (r .is ∙ same) ∙ z in
-      rw w refl
+  is-refusal : refusal limit (lengthsOf call) ≡ n
+  is-refusal = sym (r .is ∙ same)
 
   module _ {p q : Progress} (i : n ≡ 0 → ⊥) (b : p ≡ begun) (e : q ≡ withNumber n p) where
+    call-refused : (m : List ℕ) → stateOf q log m ≡ outcome call limit answers log m
+    unfolding outcome
+    call-refused m = rw (e, b, is-refusal) (sym (called-refused (stepsOf call) limit answers log m i))
+
     pub refused-called : Called call limit answers log q log
-    refused-called = record { state = λ m. rw (e, b) (call-refused i m) }
+    refused-called = record { state = call-refused }
 
     pub refused-called-on : {m : List ℕ} → CalledOn call limit answers log m q log m
-    refused-called-on {m} = record { state = rw (e, b) (call-refused i m) }
+    refused-called-on {m} = record { state = call-refused m }
 
   module _ {p q : Progress} {log' : List ℕ} (z : n ≡ 0) (b : p ≡ begun) where
-    pub does-called : Does (stepsOf call) limit answers p log q log' → Called call limit answers log q log'
-    does-called d = record { state = λ m. (rw b at (d .state m)) ∙ sym (call-runs z m) }
-
     pub runs-called-on : {m m' : List ℕ} → Runs (stepsOf call) limit answers p log m q log' m' → CalledOn call limit answers log m q log' m'
-    runs-called-on {m} d = record { state = (rw b at (d .state)) ∙ sym (call-runs z m) }
+    unfolding outcome
+    runs-called-on {m} d = record { state = (rw b at (d .state)) ∙ rw is-refusal (sym (called-runs (stepsOf call) limit answers log m z)) }
+
+    pub does-called : Does (stepsOf call) limit answers p log q log' → Called call limit answers log q log'
+    does-called d = record { state = λ m. runs-called-on (does-runs d m) .state }

@@ -1,3 +1,4 @@
 pub mod Calls
 pub mod Does
+pub mod Limits
 pub mod Settled

@@ -44,6 +44,22 @@ pub fn transfer(
     transfer::transfer(limit, Progress::new(), log, answers, read, write)
 }
 
+// Writes and reads back `words`, by parts; no length is refused.
+pub fn transfer_in_place(
+    limit: u32,
+    log: &mut [u32],
+    answers: &[u32],
+    words: &mut [u8],
+) -> Progress
+    ensures { λ r. ⌜ CalledOn (Call.transferInPlace (length (now (words .entry)))) limit (now (answers .entry)) (now (log .entry)) (now (words .entry)) r (now (log .exit)) (now (words .exit)) ⌝ }
+{
+    let refused = refusal::refused(limit, 0, 0);
+    if refused != 0 {
+        return Progress::new().ended(refused);
+    }
+    transfer::transfer_in_place(limit, Progress::new(), log, answers, words)
+}
+
 // Waits for the transfer to complete.
 pub fn flush(limit: u32, log: &mut [u32], answers: &[u32]) -> Progress
     ensures { λ r. ⌜ Called Call.flush limit (now (answers .entry)) (now (log .entry)) r (now (log .exit)) ⌝ }
