@@ -45,12 +45,7 @@ pub fn transfer(
 }
 
 // Writes and reads back `words`, by parts; no length is refused.
-pub fn transfer_in_place(
-    limit: u32,
-    log: &mut [u32],
-    answers: &[u32],
-    words: &mut [u8],
-) -> Progress
+pub fn transfer_in_place(limit: u32, log: &mut [u32], answers: &[u32], words: &mut [u8]) -> Progress
     ensures { λ r. ⌜ CalledOn (Call.transferInPlace (length (now (words .entry)))) limit (now (answers .entry)) (now (log .entry)) (now (words .entry)) r (now (log .exit)) (now (words .exit)) ⌝ }
 {
     let refused = refusal::refused(limit, 0, 0);

@@ -1,3 +1,4 @@
 pub mod Limit
 pub mod Calls
+pub mod Modes
 pub mod Clocks

@@ -1,8 +1,14 @@
 // The calls of the bus. Each gives its number and writes its four counts: entries made, answers taken, polls, longest.
+ghost use mathlib.Core.Path.{_≡_};
 ghost use Rattle.bus.specs.Calls.{Call};
+ghost use Rattle.config.specs.Config.{workModeOf};
 ghost use Rattle.exports.specs.Calls.{Told, Gives, GivesOn};
+ghost use Rattle.exports.specs.Modes.{noMode, CalledMode, GivesMode};
 ghost use lib.ListN.{length};
 use access::Progress;
+use config::WorkMode;
+use config::WorkModeFound;
+use config::number;
 
 // Writes the counts and gives the number.
 fn tell(
@@ -91,5 +97,107 @@ pub extern "C" fn qspi_flush(
     ensures { λ r. ⌜ Gives Call.flush limit (now (answers .entry)) (now (log .entry)) (now (log .exit)) r (now (entries .exit)) (now (taken .exit)) (now (polls .exit)) (now (longest .exit)) ⌝ }
 {
     let p = bus::spi_bus::flush(limit, log, answers);
+    tell(p, entries, taken, polls, longest)
+}
+
+// Writes and reads back the bytes, by parts.
+#[no_mangle]
+pub extern "C" fn qspi_transfer_in_place(
+    limit: u32,
+    log: &mut [u32],
+    answers: &[u32],
+    bytes: &mut [u8],
+    entries: &mut usize,
+    taken: &mut usize,
+    polls: &mut usize,
+    longest: &mut u32,
+) -> u32
+    ensures { λ r. ⌜ GivesOn (Call.transferInPlace (length (now (bytes .entry)))) limit (now (answers .entry)) (now (log .entry)) (now (bytes .entry)) (now (log .exit)) (now (bytes .exit)) r (now (entries .exit)) (now (taken .exit)) (now (polls .exit)) (now (longest .exit)) ⌝ }
+{
+    let p = bus::spi_bus::transfer_in_place(limit, log, answers, bytes);
+    tell(p, entries, taken, polls, longest)
+}
+
+// Reads `data` on four lines, after `command` and its dummy bytes on one. `hz`: the rate of the bus.
+#[no_mangle]
+pub extern "C" fn qspi_read_quad(
+    limit: u32,
+    log: &mut [u32],
+    answers: &[u32],
+    hz: u32,
+    command: &[u8],
+    tclqv_ns: u32,
+    margin: u8,
+    data: &mut [u8],
+    entries: &mut usize,
+    taken: &mut usize,
+    polls: &mut usize,
+    longest: &mut u32,
+) -> u32
+    ensures { λ r. ⌜ GivesOn (Call.readQuad hz (now (command .entry)) «tclqv_ns» margin (length (now («data» .entry)))) limit (now (answers .entry)) (now (log .entry)) (now («data» .entry)) (now (log .exit)) (now («data» .exit)) r (now (entries .exit)) (now (taken .exit)) (now (polls .exit)) (now (longest .exit)) ⌝ }
+{
+    let p = bus::quad_spi_bus::read_quad(limit, log, answers, hz, command, tclqv_ns, margin, data);
+    tell(p, entries, taken, polls, longest)
+}
+
+// Writes `data` on four lines, after `command` on one.
+#[no_mangle]
+pub extern "C" fn qspi_write_quad(
+    limit: u32,
+    log: &mut [u32],
+    answers: &[u32],
+    command: &[u8],
+    data: &[u8],
+    entries: &mut usize,
+    taken: &mut usize,
+    polls: &mut usize,
+    longest: &mut u32,
+) -> u32
+    ensures { λ r. ⌜ Gives (Call.writeQuad (now (command .entry)) (now («data» .entry))) limit (now (answers .entry)) (now (log .entry)) (now (log .exit)) r (now (entries .exit)) (now (taken .exit)) (now (polls .exit)) (now (longest .exit)) ⌝ }
+{
+    let p = bus::quad_spi_bus::write_quad(limit, log, answers, command, data);
+    tell(p, entries, taken, polls, longest)
+}
+
+// The work mode of a number, 0 to 6; 8 for another, after 7.
+fn set_numbered_mode(limit: u32, qpi: bool, log: &mut [u32], answers: &[u32], mode: u32) -> Progress
+    ensures { λ r. ⌜ CalledMode (workModeOf mode) qpi limit (now (answers .entry)) (now (log .entry)) r (now (log .exit)) ⌝ }
+{
+    let found = WorkMode::from_number(mode);
+    match found {
+        WorkModeFound::Mode(known) => {
+            bus::work_mode::set_work_mode(limit, qpi, log, answers, known)
+        }
+        WorkModeFound::Unknown => Progress::new().ended(no_mode(limit)),
+    }
+}
+
+// What a number that is no mode is refused as.
+fn no_mode(limit: u32) -> u32
+    ensures { λ r. ⌜ r ≡ noMode limit ⌝ }
+{
+    if limit == 0 {
+        number::LIMIT
+    } else {
+        number::CHAIN
+    }
+}
+
+// Changes the work mode, by its number. `qpi`: the chip has QPI.
+#[no_mangle]
+pub extern "C" fn qspi_set_work_mode(
+    limit: u32,
+    log: &mut [u32],
+    answers: &[u32],
+    qpi: bool,
+    mode: u32,
+    entries: &mut usize,
+    taken: &mut usize,
+    polls: &mut usize,
+    longest: &mut u32,
+) -> u32
+    ensures { λ r. ⌜ GivesMode (workModeOf mode) qpi limit (now (answers .entry)) (now (log .entry)) (now (log .exit)) r (now (entries .exit)) (now (taken .exit)) (now (polls .exit)) (now (longest .exit)) ⌝ }
+{
+    let p = set_numbered_mode(limit, qpi, log, answers, mode);
     tell(p, entries, taken, polls, longest)
 }
