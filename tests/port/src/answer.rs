@@ -14,12 +14,12 @@ const CASES: [(&str, Answer); 14] = [
     ("free", missing),
     ("write", write),
     ("read", read),
-    ("inplace", missing),
+    ("inplace", inplace),
     ("transfer", transfer),
     ("flush", flush),
-    ("mode", missing),
-    ("quadread", missing),
-    ("quadwrite", missing),
+    ("mode", mode),
+    ("quadread", quadread),
+    ("quadwrite", quadwrite),
     ("transaction", missing),
     ("clock", clock),
     ("sck", sck),
@@ -115,6 +115,51 @@ fn transfer(w: &mut Words, out: &mut String) -> Result<(), String> {
 fn flush(w: &mut Words, out: &mut String) -> Result<(), String> {
     let (limit, log_words) = (w.u32()?, w.usize()?);
     call(limit, log_words, w, out, exports::flush)
+}
+
+fn inplace(w: &mut Words, out: &mut String) -> Result<(), String> {
+    let (limit, log_words, mut bytes) = (w.u32()?, w.usize()?, w.bytes()?);
+    let given = bytes.clone();
+    call(limit, log_words, w, out, |lent| {
+        exports::transfer_in_place(lent, &mut bytes)
+    })?;
+    changes(&given, &bytes, out);
+    Ok(())
+}
+
+fn mode(w: &mut Words, out: &mut String) -> Result<(), String> {
+    let (limit, log_words) = (w.u32()?, w.usize()?);
+    let (qpi, mode) = (w.up_to(1)? == 1, w.u32()?);
+    call(limit, log_words, w, out, |lent| {
+        exports::set_work_mode(lent, qpi, mode)
+    })
+}
+
+fn quadread(w: &mut Words, out: &mut String) -> Result<(), String> {
+    let (limit, log_words, hz) = (w.u32()?, w.usize()?, w.u32()?);
+    let command = w.bytes()?;
+    let (tclqv_ns, margin) = (w.u32()?, w.up_to(255)? as u8);
+    let mut bytes = w.bytes()?;
+    let given = bytes.clone();
+    let asked = exports::QuadRead {
+        hz,
+        command: &command,
+        tclqv_ns,
+        margin,
+    };
+    call(limit, log_words, w, out, |lent| {
+        exports::read_quad(lent, &asked, &mut bytes)
+    })?;
+    changes(&given, &bytes, out);
+    Ok(())
+}
+
+fn quadwrite(w: &mut Words, out: &mut String) -> Result<(), String> {
+    let (limit, log_words) = (w.u32()?, w.usize()?);
+    let (command, data) = (w.bytes()?, w.bytes()?);
+    call(limit, log_words, w, out, |lent| {
+        exports::write_quad(lent, &command, &data)
+    })
 }
 
 fn clock(w: &mut Words, out: &mut String) -> Result<(), String> {

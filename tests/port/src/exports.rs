@@ -63,6 +63,65 @@ unsafe extern "C" {
         polls: &mut usize,
         longest: &mut u32,
     ) -> u32;
+    fn qspi_transfer_in_place(
+        limit: u32,
+        log: *mut u32,
+        log_len: usize,
+        answers: *const u32,
+        answers_len: usize,
+        bytes: *mut u8,
+        bytes_len: usize,
+        entries: &mut usize,
+        taken: &mut usize,
+        polls: &mut usize,
+        longest: &mut u32,
+    ) -> u32;
+    fn qspi_set_work_mode(
+        limit: u32,
+        log: *mut u32,
+        log_len: usize,
+        answers: *const u32,
+        answers_len: usize,
+        qpi: bool,
+        mode: u32,
+        entries: &mut usize,
+        taken: &mut usize,
+        polls: &mut usize,
+        longest: &mut u32,
+    ) -> u32;
+    fn qspi_read_quad(
+        limit: u32,
+        log: *mut u32,
+        log_len: usize,
+        answers: *const u32,
+        answers_len: usize,
+        hz: u32,
+        command: *const u8,
+        command_len: usize,
+        tclqv_ns: u32,
+        margin: u8,
+        data: *mut u8,
+        data_len: usize,
+        entries: &mut usize,
+        taken: &mut usize,
+        polls: &mut usize,
+        longest: &mut u32,
+    ) -> u32;
+    fn qspi_write_quad(
+        limit: u32,
+        log: *mut u32,
+        log_len: usize,
+        answers: *const u32,
+        answers_len: usize,
+        command: *const u8,
+        command_len: usize,
+        data: *const u8,
+        data_len: usize,
+        entries: &mut usize,
+        taken: &mut usize,
+        polls: &mut usize,
+        longest: &mut u32,
+    ) -> u32;
 }
 
 /// How a call ended: its number and its four counts.
@@ -157,6 +216,105 @@ pub fn flush(lent: &mut Lent) -> Ended {
             lent.log.len(),
             lent.answers.as_ptr(),
             lent.answers.len(),
+            &mut e.entries,
+            &mut e.taken,
+            &mut e.polls,
+            &mut e.longest,
+        )
+    };
+    e
+}
+
+pub fn transfer_in_place(lent: &mut Lent, bytes: &mut [u8]) -> Ended {
+    let mut e = Ended::default();
+    // Pointers and lengths are those of slices.
+    e.number = unsafe {
+        qspi_transfer_in_place(
+            lent.limit,
+            lent.log.as_mut_ptr(),
+            lent.log.len(),
+            lent.answers.as_ptr(),
+            lent.answers.len(),
+            bytes.as_mut_ptr(),
+            bytes.len(),
+            &mut e.entries,
+            &mut e.taken,
+            &mut e.polls,
+            &mut e.longest,
+        )
+    };
+    e
+}
+
+pub fn set_work_mode(lent: &mut Lent, qpi: bool, mode: u32) -> Ended {
+    let mut e = Ended::default();
+    // Pointers and lengths are those of slices.
+    e.number = unsafe {
+        qspi_set_work_mode(
+            lent.limit,
+            lent.log.as_mut_ptr(),
+            lent.log.len(),
+            lent.answers.as_ptr(),
+            lent.answers.len(),
+            qpi,
+            mode,
+            &mut e.entries,
+            &mut e.taken,
+            &mut e.polls,
+            &mut e.longest,
+        )
+    };
+    e
+}
+
+/// What a quad read is asked for besides its data.
+pub struct QuadRead<'a> {
+    pub hz: u32,
+    pub command: &'a [u8],
+    pub tclqv_ns: u32,
+    pub margin: u8,
+}
+
+pub fn read_quad(lent: &mut Lent, asked: &QuadRead, data: &mut [u8]) -> Ended {
+    let mut e = Ended::default();
+    // Pointers and lengths are those of slices.
+    e.number = unsafe {
+        qspi_read_quad(
+            lent.limit,
+            lent.log.as_mut_ptr(),
+            lent.log.len(),
+            lent.answers.as_ptr(),
+            lent.answers.len(),
+            asked.hz,
+            asked.command.as_ptr(),
+            asked.command.len(),
+            asked.tclqv_ns,
+            asked.margin,
+            data.as_mut_ptr(),
+            data.len(),
+            &mut e.entries,
+            &mut e.taken,
+            &mut e.polls,
+            &mut e.longest,
+        )
+    };
+    e
+}
+
+pub fn write_quad(lent: &mut Lent, command: &[u8], data: &[u8]) -> Ended {
+    let mut e = Ended::default();
+    // Pointers and lengths are those of slices.
+    e.number = unsafe {
+        qspi_write_quad(
+            lent.limit,
+            lent.log.as_mut_ptr(),
+            lent.log.len(),
+            lent.answers.as_ptr(),
+            lent.answers.len(),
+            command.as_ptr(),
+            command.len(),
+            data.as_ptr(),
+            data.len(),
             &mut e.entries,
             &mut e.taken,
             &mut e.polls,
