@@ -141,130 +141,63 @@ pub struct Lent<'a> {
     pub answers: &'a [u32],
 }
 
+/// Makes a call on what it is lent and its own arguments.
+macro_rules! made {
+    ($f:ident, $lent:expr $(, $argument:expr)*) => {{
+        let mut e = Ended::default();
+        // Every pointer and its length are those of a slice.
+        e.number = unsafe {
+            $f(
+                $lent.limit,
+                $lent.log.as_mut_ptr(),
+                $lent.log.len(),
+                $lent.answers.as_ptr(),
+                $lent.answers.len(),
+                $($argument,)*
+                &mut e.entries,
+                &mut e.taken,
+                &mut e.polls,
+                &mut e.longest,
+            )
+        };
+        e
+    }};
+}
+
 pub fn write(lent: &mut Lent, bytes: &[u8]) -> Ended {
-    let mut e = Ended::default();
-    // Pointers and lengths are those of slices.
-    e.number = unsafe {
-        qspi_write(
-            lent.limit,
-            lent.log.as_mut_ptr(),
-            lent.log.len(),
-            lent.answers.as_ptr(),
-            lent.answers.len(),
-            bytes.as_ptr(),
-            bytes.len(),
-            &mut e.entries,
-            &mut e.taken,
-            &mut e.polls,
-            &mut e.longest,
-        )
-    };
-    e
+    made!(qspi_write, lent, bytes.as_ptr(), bytes.len())
 }
 
 pub fn read(lent: &mut Lent, bytes: &mut [u8]) -> Ended {
-    let mut e = Ended::default();
-    // Pointers and lengths are those of slices.
-    e.number = unsafe {
-        qspi_read(
-            lent.limit,
-            lent.log.as_mut_ptr(),
-            lent.log.len(),
-            lent.answers.as_ptr(),
-            lent.answers.len(),
-            bytes.as_mut_ptr(),
-            bytes.len(),
-            &mut e.entries,
-            &mut e.taken,
-            &mut e.polls,
-            &mut e.longest,
-        )
-    };
-    e
+    made!(qspi_read, lent, bytes.as_mut_ptr(), bytes.len())
 }
 
 pub fn transfer(lent: &mut Lent, read: &mut [u8], write: &[u8]) -> Ended {
-    let mut e = Ended::default();
-    // Pointers and lengths are those of slices.
-    e.number = unsafe {
-        qspi_transfer(
-            lent.limit,
-            lent.log.as_mut_ptr(),
-            lent.log.len(),
-            lent.answers.as_ptr(),
-            lent.answers.len(),
-            read.as_mut_ptr(),
-            read.len(),
-            write.as_ptr(),
-            write.len(),
-            &mut e.entries,
-            &mut e.taken,
-            &mut e.polls,
-            &mut e.longest,
-        )
-    };
-    e
-}
-
-pub fn flush(lent: &mut Lent) -> Ended {
-    let mut e = Ended::default();
-    // Pointers and lengths are those of slices.
-    e.number = unsafe {
-        qspi_flush(
-            lent.limit,
-            lent.log.as_mut_ptr(),
-            lent.log.len(),
-            lent.answers.as_ptr(),
-            lent.answers.len(),
-            &mut e.entries,
-            &mut e.taken,
-            &mut e.polls,
-            &mut e.longest,
-        )
-    };
-    e
+    made!(
+        qspi_transfer,
+        lent,
+        read.as_mut_ptr(),
+        read.len(),
+        write.as_ptr(),
+        write.len()
+    )
 }
 
 pub fn transfer_in_place(lent: &mut Lent, bytes: &mut [u8]) -> Ended {
-    let mut e = Ended::default();
-    // Pointers and lengths are those of slices.
-    e.number = unsafe {
-        qspi_transfer_in_place(
-            lent.limit,
-            lent.log.as_mut_ptr(),
-            lent.log.len(),
-            lent.answers.as_ptr(),
-            lent.answers.len(),
-            bytes.as_mut_ptr(),
-            bytes.len(),
-            &mut e.entries,
-            &mut e.taken,
-            &mut e.polls,
-            &mut e.longest,
-        )
-    };
-    e
+    made!(
+        qspi_transfer_in_place,
+        lent,
+        bytes.as_mut_ptr(),
+        bytes.len()
+    )
+}
+
+pub fn flush(lent: &mut Lent) -> Ended {
+    made!(qspi_flush, lent)
 }
 
 pub fn set_work_mode(lent: &mut Lent, qpi: bool, mode: u32) -> Ended {
-    let mut e = Ended::default();
-    // Pointers and lengths are those of slices.
-    e.number = unsafe {
-        qspi_set_work_mode(
-            lent.limit,
-            lent.log.as_mut_ptr(),
-            lent.log.len(),
-            lent.answers.as_ptr(),
-            lent.answers.len(),
-            qpi,
-            mode,
-            &mut e.entries,
-            &mut e.taken,
-            &mut e.polls,
-            &mut e.longest,
-        )
-    };
-    e
+    made!(qspi_set_work_mode, lent, qpi, mode)
 }
 
 /// What a quad read is asked for besides its data.
@@ -276,52 +209,28 @@ pub struct QuadRead<'a> {
 }
 
 pub fn read_quad(lent: &mut Lent, asked: &QuadRead, data: &mut [u8]) -> Ended {
-    let mut e = Ended::default();
-    // Pointers and lengths are those of slices.
-    e.number = unsafe {
-        qspi_read_quad(
-            lent.limit,
-            lent.log.as_mut_ptr(),
-            lent.log.len(),
-            lent.answers.as_ptr(),
-            lent.answers.len(),
-            asked.hz,
-            asked.command.as_ptr(),
-            asked.command.len(),
-            asked.tclqv_ns,
-            asked.margin,
-            data.as_mut_ptr(),
-            data.len(),
-            &mut e.entries,
-            &mut e.taken,
-            &mut e.polls,
-            &mut e.longest,
-        )
-    };
-    e
+    made!(
+        qspi_read_quad,
+        lent,
+        asked.hz,
+        asked.command.as_ptr(),
+        asked.command.len(),
+        asked.tclqv_ns,
+        asked.margin,
+        data.as_mut_ptr(),
+        data.len()
+    )
 }
 
 pub fn write_quad(lent: &mut Lent, command: &[u8], data: &[u8]) -> Ended {
-    let mut e = Ended::default();
-    // Pointers and lengths are those of slices.
-    e.number = unsafe {
-        qspi_write_quad(
-            lent.limit,
-            lent.log.as_mut_ptr(),
-            lent.log.len(),
-            lent.answers.as_ptr(),
-            lent.answers.len(),
-            command.as_ptr(),
-            command.len(),
-            data.as_ptr(),
-            data.len(),
-            &mut e.entries,
-            &mut e.taken,
-            &mut e.polls,
-            &mut e.longest,
-        )
-    };
-    e
+    made!(
+        qspi_write_quad,
+        lent,
+        command.as_ptr(),
+        command.len(),
+        data.as_ptr(),
+        data.len()
+    )
 }
 
 /// The limit of unready polls in one wait that the Rust has.
