@@ -113,12 +113,7 @@ fn configure_transfer(
     let phase = mode.phase;
     let polarity = mode.polarity;
     let cs_ctrl_mode = cs_ctrl_mode(cs_config);
-    let format = Change::Transfer(Transfer::Format(
-        phase,
-        polarity,
-        cs_ctrl_mode,
-        lsb_first,
-    ));
+    let format = Change::Transfer(Transfer::Format(phase, polarity, cs_ctrl_mode, lsb_first));
     let formatted = changes::modify(progress, log, answers, format);
     let selected = select_chip(formatted, log, answers, cs_config);
     let sampling = Change::Transfer(Transfer::Sampling(slow));
@@ -202,7 +197,15 @@ pub fn configure_registers(
     let mode = config.mode;
     let cs_config = config.cs_config;
     let slow = sck_hz <= osc_hz;
-    let set = configure_transfer(enabled, log, answers, mode, cs_config, config.lsb_first, slow);
+    let set = configure_transfer(
+        enabled,
+        log,
+        answers,
+        mode,
+        cs_config,
+        config.lsb_first,
+        slow,
+    );
     let work_mode = config.work_mode;
     configure_work_mode(set, log, answers, work_mode, config.bit_mode_en)
 }

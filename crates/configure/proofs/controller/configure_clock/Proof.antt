@@ -25,7 +25,7 @@ same-length c = search needs
 
 returns : tie.Need-returns
 unfolding controllerClock
-returns c = 
+returns c =
     let latched = c .before .before in
     let divided = latched .before .before .before .before in
     let divide = divided .before .before in

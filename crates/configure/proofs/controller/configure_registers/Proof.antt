@@ -21,7 +21,7 @@ same-length c = search needs
 
 returns : tie.Need-returns
 unfolding registerSteps
-returns c = 
+returns c =
     let lined = c .before .before in
     let set = lined .before .before .before .before in
     let enabled = set .before .before .before .before .before in

@@ -22,7 +22,7 @@ same-length c = search needs
 
 returns : tie.Need-returns
 unfolding transferConfig
-returns c = 
+returns c =
     let sampled = c .before .before in
     let selected = sampled .before .before .before .before in
     let formatted = selected .before .before .before .before in

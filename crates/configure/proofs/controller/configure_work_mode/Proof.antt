@@ -23,7 +23,7 @@ same-length : tie.Need-same-length
 same-length c = search needs
 
 returns : tie.Need-returns
-returns c = 
+returns c =
     let wired = c .before .before in
     let test = wired .before .before in
     let asked = test .before in

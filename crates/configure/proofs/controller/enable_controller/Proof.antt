@@ -15,7 +15,7 @@ same-length c = search needs
 
 returns : tie.Need-returns
 unfolding controllerOn
-returns c = 
+returns c =
     let quiet = c .before .before in
     then-works (quiet .before .before .before .before .modify .ensures) (quiet .modify2 .ensures)
 

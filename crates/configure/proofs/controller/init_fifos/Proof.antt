@@ -18,7 +18,7 @@ same-length c = search needs
 
 returns : tie.Need-returns
 unfolding fifoSteps
-returns c = 
+returns c =
     let cleared = c .before .before in
     let delayed = cleared .before .before .before .before in
     let reset = delayed .before .before .before .before in

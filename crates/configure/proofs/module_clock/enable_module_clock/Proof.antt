@@ -25,7 +25,7 @@ same-length c = search needs
 
 returns : tie.Need-returns
 unfolding moduleClock
-returns c = 
+returns c =
     let released = c .before .before in
     let delayed = released .before .before .before .before in
     let held = delayed .before .before .before .before in
