@@ -6,6 +6,9 @@ use registers::TotalBytesCnt;
 use registers::TransCnt;
 use registers::TransMiscControl;
 use registers::TransferConfig;
+use setups::ClockWord;
+use setups::Controller;
+use setups::Transfer;
 
 pub enum Change {
     // Both FIFOs reset.
@@ -30,6 +33,12 @@ pub enum Change {
     NotThreeWire,
     // QPI on.
     Qpi,
+    // The module clock's word, at its place.
+    Clock(u16, ClockWord),
+    // The controller, at an opening.
+    Controller(Controller),
+    // How transfers go, at an opening.
+    Transfer(Transfer),
 }
 
 impl Change {
@@ -48,6 +57,9 @@ impl Change {
             Change::ThreeWire => 0x008,
             Change::NotThreeWire => 0x008,
             Change::Qpi => 0x038,
+            Change::Clock(place, _) => place,
+            Change::Controller(setup) => setup.place(),
+            Change::Transfer(setup) => setup.place(),
         }
     }
 
@@ -70,6 +82,9 @@ impl Change {
             Change::ThreeWire => TransferConfig(word).enable_three_wire().0,
             Change::NotThreeWire => TransferConfig(word).disable_three_wire().0,
             Change::Qpi => TransMiscControl(word).enable_quad().enable_qpi().0,
+            Change::Clock(_, setup) => setup.apply(word),
+            Change::Controller(setup) => setup.apply(word),
+            Change::Transfer(setup) => setup.apply(word),
         }
     }
 }

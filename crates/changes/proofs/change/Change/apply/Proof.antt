@@ -88,6 +88,24 @@ enable-quad-requires-2 c κs = search needs
 enable-qpi-requires : tie.Need-enable-qpi-requires
 enable-qpi-requires c κs = search needs
 
+enum-known-self-4 : tie.Need-enum-known-self-4
+enum-known-self-4 c = search needs
+
+apply-requires : tie.Need-apply-requires
+apply-requires c κs = search needs
+
+enum-known-self-5 : tie.Need-enum-known-self-5
+enum-known-self-5 c = search needs
+
+apply-requires-2 : tie.Need-apply-requires-2
+apply-requires-2 c κs = search needs
+
+enum-known-self-6 : tie.Need-enum-known-self-6
+enum-known-self-6 c = search needs
+
+apply-requires-3 : tie.Need-apply-requires-3
+apply-requires-3 c κs = search needs
+
 returns : tie.Need-returns
 returns c = rw (c .before .before .enum-told .given .1) (c .reset-rx-fifo .ensures ∙ ap (setField 15 1 1) (c .before .reset-tx-fifo .ensures))
 
@@ -121,6 +139,15 @@ returns-10 c = rw (c .before .enum-told7 .given .1) (c .disable-three-wire .ensu
 returns-11 : tie.Need-returns-11
 returns-11 c = rw (c .before .before .enum-told8 .given .1) (c .enable-qpi .ensures ∙ ap (setField 31 1 1) (c .before .enable-quad2 .ensures))
 
+returns-12 : tie.Need-returns-12
+returns-12 c = rw (c .before .before .self4 .given .1) (c .apply .ensures)
+
+returns-13 : tie.Need-returns-13
+returns-13 c = rw (c .before .before .self5 .given .1) (c .apply2 .ensures)
+
+returns-14 : tie.Need-returns-14
+returns-14 c = rw (c .before .before .self6 .given .1) (c .apply3 .ensures)
+
 pub apply-spec : {M : Type 1} → statement M
 apply-spec =
     tie.close
@@ -153,6 +180,12 @@ apply-spec =
     enum-told-8
     enable-quad-requires-2
     enable-qpi-requires
+    enum-known-self-4
+    apply-requires
+    enum-known-self-5
+    apply-requires-2
+    enum-known-self-6
+    apply-requires-3
     returns
     returns-2
     returns-3
@@ -163,4 +196,7 @@ apply-spec =
     returns-8
     returns-9
     returns-10
-    returns-11)
+    returns-11
+    returns-12
+    returns-13
+    returns-14)

@@ -1,0 +1,71 @@
+-- What the code's choices come to.
+use mathlib.Core.Path.{_≡_, refl, sym, ap, _∙_}
+use mathlib.Core.Bool.{Bool, true, false, cond}
+use mathlib.Core.List.{List}
+use Prim.Native.Nat.{ℕ, _+_, _<_, min}
+use native.Mathlib.Omega.{arith}
+use Rattle.model.specs.Steps.{Steps, then}
+use Rattle.model.specs.Steps.End.{done}
+use Rattle.model.specs.Steps.Steps.{end}
+use Rattle.config.specs.declared.spi.Mode.{Mode}
+use Rattle.config.specs.declared.config.CsConfig.{CsConfig}
+use Rattle.config.specs.declared.config.CsConfig.the-variants.{None, Some}
+use Rattle.config.specs.declared.config.WorkMode.{WorkMode}
+use Rattle.config.specs.declared.config.WorkMode.the-variants.{Standard, ThreeWire, Dual, DualIO, Quad, QuadIO, Qpi}
+use Rattle.clock.specs.declared.DividerSelect.{DividerSelect}
+use Rattle.clock.specs.declared.DividerSelect.the-variants.{Cdr1, Cdr2}
+use Rattle.access.specs.declared.progress.Progress.{Progress}
+use Rattle.access.specs.Does.{Sound, Works}
+use Rattle.access.proofs.Sequence.{nothing-done}
+use Rattle.setups.specs.declared.transfer.Transfer as transfer
+use Rattle.changes.specs.declared.change.Change as change
+use Rattle.changes.specs.Of.{changeOf}
+use Rattle.configure.specs.Steps.{clockDivider, transferFormat, busMode, workMode}
+use Rattle.configure.specs.Of.{dividerIn, csCtrlMode, busModeIn, lines, inBytes}
+
+pub nothing-works : {answers : List ℕ} {p : Progress} {log : List ℕ} → Sound p → Works (end done) answers p log p log
+nothing-works few = record { sound = few; does = λ limit. nothing-done few }
+
+pub divides : (d : DividerSelect) → changeOf (change.the-variants.Controller (dividerIn d)) ≡ clockDivider d
+unfolding clockDivider
+divides (Cdr1 c) = refl
+divides (Cdr2 c) = refl
+
+pub formats : (mode : Mode) (cs : CsConfig) (lsb : Bool)
+    → changeOf (change.the-variants.Transfer (transfer.the-variants.Format (mode .phase) (mode .polarity) (csCtrlMode cs) lsb)) ≡ transferFormat mode cs lsb
+unfolding transferFormat
+formats mode None lsb = refl
+formats mode (Some polarity level pin) lsb = refl
+
+module _ (mode : WorkMode) (bits : Bool) where
+  abbrev pub first : Steps
+  first = changeOf (change.the-variants.Transfer (lines mode (busModeIn bits)))
+
+  -- the steps of the code for a mode that is three-wire in bytes or not
+  steps : Bool → Steps
+  steps b = cond b (then first (changeOf change.the-variants.ThreeWire)) first
+
+two-ways : (mode : WorkMode) (bits : Bool) → workMode mode bits ≡ steps mode bits (inBytes mode bits)
+unfolding workMode busMode steps
+two-ways Standard true = refl
+two-ways Standard false = refl
+two-ways ThreeWire true = refl
+two-ways ThreeWire false = refl
+two-ways Dual bits = refl
+two-ways DualIO bits = refl
+two-ways Quad bits = refl
+two-ways QuadIO bits = refl
+two-ways Qpi bits = refl
+
+module _ (mode : WorkMode) (bits : Bool) {b : Bool} (e : b ≡ inBytes mode bits) where
+  pub in-bytes : b ≡ true → workMode mode bits ≡ then (first mode bits) (changeOf change.the-variants.ThreeWire)
+  unfolding steps
+  in-bytes t = two-ways mode bits ∙ ap (steps mode bits) (sym e ∙ t)
+
+  pub not-in-bytes : b ≡ false → workMode mode bits ≡ first mode bits
+  unfolding steps
+  not-in-bytes t = two-ways mode bits ∙ ap (steps mode bits) (sym e ∙ t)
+
+-- the place of an instance up to 3
+pub own-place : {instance place : ℕ} → place ≡ 0x1000 + min instance 3 → instance < 4 → 0x1000 + instance ≡ place
+own-place e h = omega arith

@@ -1,0 +1,4 @@
+pub mod Call
+pub mod Polls
+pub mod Laws
+pub mod Settled
