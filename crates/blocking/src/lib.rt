@@ -4,9 +4,12 @@ ghost use lib.ListN.{length};
 ghost use Rattle.clock.specs.Dummies.{dummies};
 ghost use Rattle.bus.specs.Calls.{Call};
 ghost use Rattle.bus.specs.Does.{Called, CalledOn};
+ghost use Rattle.opening.specs.Call.{openingOf, Releases};
+ghost use Rattle.blocking.specs.Opened.{News};
 use access::Progress;
 use config::QspiConfig;
 use config::WorkMode;
+use opening::ClockTree;
 
 pub struct BlockingQspi {
     pub instance: u32,
@@ -19,7 +22,50 @@ pub struct BlockingQspi {
     pub config: QspiConfig,
 }
 
+// What an opening hands back.
+pub enum Opened {
+    // With number 0.
+    Open(BlockingQspi, Progress),
+    // With any other.
+    Shut(Progress),
+}
+
 impl BlockingQspi {
+    // Opens the bus of an instance. `qpi`: the chip has QPI.
+    pub fn new(
+        instance: u32,
+        qpi: bool,
+        limit: u32,
+        log: &mut [u32],
+        answers: &[u32],
+        config: QspiConfig,
+        clock_tree: ClockTree,
+    ) -> Opened
+        ensures { λ r. ⌜ News (openingOf instance qpi config «clock_tree») limit (now (answers .entry)) (now (log .entry)) r (now (log .exit)) ⌝ }
+    {
+        let opened = opening::open(instance, qpi, limit, log, answers, config, clock_tree);
+        let progress = opened.progress;
+        let sck_hz = opened.sck_hz;
+        if progress.number != 0 {
+            return Opened::Shut(progress);
+        }
+        let bus = BlockingQspi {
+            instance,
+            qpi,
+            limit,
+            sck_hz,
+            config,
+        };
+        Opened::Open(bus, progress)
+    }
+
+    // Disables the clock and resets the module.
+    pub fn free(self, log: &mut [u32], answers: &[u32]) -> Progress
+        ensures { λ r. ⌜ Releases (self .instance) (now (answers .entry)) (now (log .entry)) r (now (log .exit)) ⌝ }
+    {
+        opening::free(self.instance, log, answers)
+    }
+
     // SCK frequency produced by the divider chain.
     pub fn sck_hz(self) -> u32
         ensures { λ r. ⌜ r ≡ self .«sck_hz» ⌝ }
