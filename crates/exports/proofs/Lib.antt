@@ -1,2 +1,3 @@
 pub mod Rates
 pub mod Counts
+pub mod Opens

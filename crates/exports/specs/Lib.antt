@@ -1,4 +1,5 @@
 pub mod Limit
 pub mod Calls
 pub mod Modes
+pub mod Opening
 pub mod Clocks

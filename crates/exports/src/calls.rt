@@ -11,7 +11,7 @@ use config::WorkModeFound;
 use config::number;
 
 // Writes the counts and gives the number.
-fn tell(
+pub fn tell(
     p: Progress,
     entries: &mut usize,
     taken: &mut usize,

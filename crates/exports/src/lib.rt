@@ -4,6 +4,7 @@ ghost use Rattle.exports.specs.Limit.{defaultLimit};
 
 pub mod calls;
 pub mod clocks;
+pub mod open;
 
 // The limit of unready polls in one wait that the Rust has.
 #[no_mangle]

@@ -10,8 +10,8 @@ type Answer = fn(&mut Words, &mut String) -> Result<(), String>;
 
 /// Every case name and what answers it.
 const CASES: [(&str, Answer); 14] = [
-    ("open", missing),
-    ("free", missing),
+    ("open", open),
+    ("free", free),
     ("write", write),
     ("read", read),
     ("inplace", inplace),
@@ -82,6 +82,42 @@ fn changes(given: &[u8], now: &[u8], out: &mut String) {
             let _ = writeln!(out, "m {i:08x} {b:02x}");
         }
     }
+}
+
+fn open(w: &mut Words, out: &mut String) -> Result<(), String> {
+    let instance = w.u32()?;
+    let mode = w.up_to(3)?;
+    let (master, work_mode) = (w.flag()?, w.u32()?);
+    let (bit_mode, lsb_first) = (w.flag()?, w.flag()?);
+    let (selects, record) = (w.flag()?, [w.flag()?, w.flag()?, w.flag()?]);
+    let (freq, pll_hz, osc_hz) = (w.u32()?, w.u32()?, w.u32()?);
+    let (qpi, limit, log_words) = (w.flag()?, w.u32()?, w.usize()?);
+    let asked = exports::Opening {
+        instance,
+        qpi,
+        pll_hz,
+        osc_hz,
+        freq,
+        idle_high: mode >= 2,
+        second_transition: mode % 2 == 1,
+        master,
+        work_mode,
+        bit_mode,
+        lsb_first,
+        cs: selects.then_some(record),
+    };
+    let mut rate = 0;
+    call(limit, log_words, w, out, |lent| {
+        let (ended, hz) = exports::open(lent, &asked);
+        rate = hz;
+        ended
+    })?;
+    writeln!(out, "rate {rate}").map_err(|e| e.to_string())
+}
+
+fn free(w: &mut Words, out: &mut String) -> Result<(), String> {
+    let (instance, log_words) = (w.u32()?, w.usize()?);
+    call(1, log_words, w, out, |lent| exports::free(lent, instance))
 }
 
 fn write(w: &mut Words, out: &mut String) -> Result<(), String> {
@@ -218,8 +254,7 @@ mod tests {
     #[test]
     fn names_and_ends() {
         let mut out = Vec::new();
-        let input =
-            "# a comment\n\nfree 0 100 0\nflush 3 100 0\nflash 1\nclock 24000000 10000000\n";
+        let input = "# a comment\n\ntransaction 1 2 0 0 0 0\nflush 3 100 0\nflash 1\nclock 24000000 10000000\n";
         answer_all(input.as_bytes(), &mut out).unwrap();
         let text = String::from_utf8(out).unwrap();
         assert_eq!(

@@ -122,6 +122,44 @@ unsafe extern "C" {
         polls: &mut usize,
         longest: &mut u32,
     ) -> u32;
+    fn qspi_open(
+        limit: u32,
+        log: *mut u32,
+        log_len: usize,
+        answers: *const u32,
+        answers_len: usize,
+        instance: u32,
+        qpi: bool,
+        pll_hz: u32,
+        osc_hz: u32,
+        freq: u32,
+        idle_high: bool,
+        second_transition: bool,
+        master: bool,
+        work_mode: u32,
+        bit_mode: bool,
+        lsb_first: bool,
+        cs: bool,
+        cs_idle_high: bool,
+        cs_high: bool,
+        cs_1: bool,
+        sck_hz: &mut u32,
+        entries: &mut usize,
+        taken: &mut usize,
+        polls: &mut usize,
+        longest: &mut u32,
+    ) -> u32;
+    fn qspi_free(
+        log: *mut u32,
+        log_len: usize,
+        answers: *const u32,
+        answers_len: usize,
+        instance: u32,
+        entries: &mut usize,
+        taken: &mut usize,
+        polls: &mut usize,
+        longest: &mut u32,
+    ) -> u32;
 }
 
 /// How a call ended: its number and its four counts.
@@ -162,6 +200,72 @@ macro_rules! made {
         };
         e
     }};
+}
+
+/// What an opening is asked for.
+pub struct Opening {
+    pub instance: u32,
+    /// The chip has QPI.
+    pub qpi: bool,
+    pub pll_hz: u32,
+    pub osc_hz: u32,
+    pub freq: u32,
+    /// The SPI mode: the clock's idle level, and the transition on which data is captured.
+    pub idle_high: bool,
+    pub second_transition: bool,
+    pub master: bool,
+    pub work_mode: u32,
+    pub bit_mode: bool,
+    pub lsb_first: bool,
+    /// The chip-select record, if there is one: idle high, level high, the second pin.
+    pub cs: Option<[bool; 3]>,
+}
+
+/// How the opening ended, and the rate.
+pub fn open(lent: &mut Lent, o: &Opening) -> (Ended, u32) {
+    let mut sck_hz = 1;
+    let [cs_idle_high, cs_high, cs_1] = o.cs.unwrap_or_default();
+    let e = made!(
+        qspi_open,
+        lent,
+        o.instance,
+        o.qpi,
+        o.pll_hz,
+        o.osc_hz,
+        o.freq,
+        o.idle_high,
+        o.second_transition,
+        o.master,
+        o.work_mode,
+        o.bit_mode,
+        o.lsb_first,
+        o.cs.is_some(),
+        cs_idle_high,
+        cs_high,
+        cs_1,
+        &mut sck_hz
+    );
+    (e, sck_hz)
+}
+
+/// Does not look at the limit.
+pub fn free(lent: &mut Lent, instance: u32) -> Ended {
+    let mut e = Ended::default();
+    // Every pointer and its length are those of a slice.
+    e.number = unsafe {
+        qspi_free(
+            lent.log.as_mut_ptr(),
+            lent.log.len(),
+            lent.answers.as_ptr(),
+            lent.answers.len(),
+            instance,
+            &mut e.entries,
+            &mut e.taken,
+            &mut e.polls,
+            &mut e.longest,
+        )
+    };
+    e
 }
 
 pub fn write(lent: &mut Lent, bytes: &[u8]) -> Ended {
