@@ -1,6 +1,6 @@
--- The steps of an opening and of a release (document 01, "Steps"). Each register step is one change.
+-- The parts of an opening's steps (document 01, "Steps"). Each register step is one change.
 use mathlib.Core.Bool.{Bool, true, false, cond}
-use Prim.Native.Nat.{ℕ, _+_, min}
+use Prim.Native.Nat.{ℕ, _+_}
 use lib.Dec.{leb}
 use Rattle.model.specs.Field.{setField}
 use Rattle.model.specs.Event.Act.{delay}
@@ -96,12 +96,3 @@ unfoldable pub fifoSteps : Steps
 fifoSteps =
     then (change 0x018 (λ w. setField 0 8 32 (setField 16 8 32 (setField 15 1 1 (setField 31 1 1 w)))))
     (then (pause 100) (change 0x014 (λ w. 0xffffffff)))
-
--- of an instance: its module divider and its divider, the rate that they give, the oscillator, the configuration
-unfoldable pub openingSteps : ℕ → ℕ → DividerSelect → ℕ → ℕ → QspiConfig → Steps
-openingSteps instance div divider rate oscillator config =
-    then (moduleClock instance div) (then (registerSteps config divider rate oscillator) fifoSteps)
-
--- one clock-word change clearing bits 8, 12, 13; instances above 3 use 1003
-unfoldable pub releaseSteps : ℕ → Steps
-releaseSteps instance = change (0x1000 + min instance 3) (λ w. setField 13 1 0 (setField 12 1 0 (setField 8 1 0 w)))

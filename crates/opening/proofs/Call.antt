@@ -22,7 +22,7 @@ use Rattle.access.specs.Does.{Works}
 use Rattle.setups.specs.declared.clock_word.ClockWord as word
 use Rattle.changes.specs.declared.change.Change as change
 use Rattle.changes.specs.Of.{changeOf}
-use Rattle.configure.specs.Steps.{openingSteps, releaseSteps}
+use Rattle.opening.specs.Steps.{openingSteps, releaseSteps}
 use Rattle.opening.specs.declared.Opened.{Opened}
 use Rattle.opening.specs.Call.{Opening, refusal, openingRefusal, rateOf, stepsOf, opens, releases, openedWith, Opens, Releases}
 

@@ -10,7 +10,7 @@ use Rattle.model.specs.Limit.{Ended}
 use Rattle.model.proofs.Called.{called-refused, another-limit-called}
 use Rattle.config.specs.Spi.{supported}
 use Rattle.config.specs.Config.{isQpi}
-use Rattle.configure.specs.Steps.{releaseSteps}
+use Rattle.opening.specs.Steps.{releaseSteps}
 use Rattle.opening.specs.Call.{Opening, refusal, openingRefusal, stepsOf, rateOf, withRate, opens, releases}
 use Rattle.opening.specs.Laws.{AgainOpening, OpeningAgain, ReleaseAgain, OpeningPolls, ReleasePolls, OpeningRefused}
 use Rattle.opening.proofs.Polls.{opening-waits, release-waits, called-polls}

@@ -23,7 +23,8 @@ use Rattle.config.specs.declared.config.WorkMode.{WorkMode}
 use Rattle.config.specs.declared.config.WorkMode.the-variants.{Standard, ThreeWire, Dual, DualIO, Quad, QuadIO, Qpi}
 use Rattle.clock.specs.declared.DividerSelect.{DividerSelect}
 use Rattle.clock.specs.declared.DividerSelect.the-variants.{Cdr1, Cdr2}
-use Rattle.configure.specs.Steps.{moduleClock, clockDivider, controllerClock, controllerOn, chipSelect, transferFormat, transferConfig, busMode, workMode, registerSteps, fifoSteps, openingSteps, releaseSteps}
+use Rattle.configure.specs.Steps.{moduleClock, clockDivider, controllerClock, controllerOn, chipSelect, transferFormat, transferConfig, busMode, workMode, registerSteps, fifoSteps}
+use Rattle.opening.specs.Steps.{openingSteps, releaseSteps}
 use Rattle.opening.specs.Call.{Opening, stepsOf}
 
 -- A trace with no poll has no longest either.

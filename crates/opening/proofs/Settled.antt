@@ -10,7 +10,8 @@ use Rattle.model.specs.Run.{entered, answered, run}
 use Rattle.model.specs.State.{roomOf, ran, onward, advance, called}
 use Rattle.clock.specs.Candidate.{factorAt}
 use Rattle.clock.specs.Rank.{rank, lowest, chosen}
-use Rattle.configure.specs.Steps.{moduleClock, clockDivider, controllerClock, controllerOn, chipSelect, transferFormat, transferConfig, busMode, workMode, registerSteps, fifoSteps, openingSteps, releaseSteps}
+use Rattle.configure.specs.Steps.{moduleClock, clockDivider, controllerClock, controllerOn, chipSelect, transferFormat, transferConfig, busMode, workMode, registerSteps, fifoSteps}
+use Rattle.opening.specs.Steps.{openingSteps, releaseSteps}
 use Rattle.opening.specs.Call.{refusal, stepsOf, opens, releases}
 use Rattle.opening.specs.Settled.{endOf, logOf, releasedLog, Settled, HypothesesMet}
 

@@ -19,7 +19,7 @@ use Rattle.access.specs.declared.progress.Progress.{Progress}
 use Rattle.access.specs.Of.{stateOf}
 use Rattle.opening.specs.declared.ClockTree.{ClockTree}
 use Rattle.opening.specs.declared.Opened.{Opened}
-use Rattle.configure.specs.Steps.{openingSteps, releaseSteps}
+use Rattle.opening.specs.Steps.{openingSteps, releaseSteps}
 
 -- what is opened: everything that an opening is given but its limit and its answers
 pub record Opening : Type 0 where

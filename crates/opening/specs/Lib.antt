@@ -1,3 +1,4 @@
+pub mod Steps
 pub mod Call
 pub mod Laws
 pub mod Settled

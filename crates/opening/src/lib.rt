@@ -3,7 +3,7 @@ ghost use mathlib.Core.Path.{_≡_};
 ghost use Prim.Native.Nat.{_<_};
 ghost use Rattle.clock.specs.Answer.{sck};
 ghost use Rattle.access.specs.Does.{Sound, Works};
-ghost use Rattle.configure.specs.Steps.{openingSteps};
+ghost use Rattle.opening.specs.Steps.{openingSteps};
 ghost use Rattle.opening.specs.Call.{openingOf, openedWith, Opens, Releases};
 use access::Progress;
 use changes::Change;
@@ -100,19 +100,20 @@ pub fn open(
 ) -> Opened
     ensures { λ r. ⌜ Opens (openingOf instance qpi config «clock_tree») limit (now (answers .entry)) (now (log .entry)) r (now (log .exit)) ⌝ }
 {
+    let begun = Progress::new();
     let mode = config.mode;
     let work_mode = config.work_mode;
     let refused = refusal::refused(mode, instance, work_mode, qpi, limit);
     if refused != 0 {
-        return with_rate(Progress::new().ended(refused), 0);
+        return with_rate(begun.ended(refused), 0);
     }
     let pll = clock_tree.pll_fra0;
+    let osc_hz = clock_tree.osc_24m;
     let choice = clock::select_clock(pll, clock::clamp_target(config.freq));
     let divider = choice.divider;
     let sck_hz = rate(pll, choice.mod_div, divider);
-    let osc_hz = clock_tree.osc_24m;
     let progress = new(
-        Progress::new(),
+        begun,
         log,
         answers,
         instance,

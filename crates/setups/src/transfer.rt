@@ -67,16 +67,11 @@ impl Transfer {
                 .set_cs_pin_num(pin)
                 .0,
             Transfer::Sampling(slow) => {
+                let config = TransferConfig(word);
                 if slow {
-                    TransferConfig(word)
-                        .disable_rx_data_delay()
-                        .disable_rx_inner_delay()
-                        .0
+                    config.disable_rx_data_delay().disable_rx_inner_delay().0
                 } else {
-                    TransferConfig(word)
-                        .enable_rx_data_delay()
-                        .disable_rx_inner_delay()
-                        .0
+                    config.enable_rx_data_delay().disable_rx_inner_delay().0
                 }
             }
             Transfer::Bus(mode) => BitModeTransConfig(word).set_bus_mode(mode).0,

@@ -1,4 +1,4 @@
-use Rattle.configure.specs.Steps.{openingSteps}
+use Rattle.opening.specs.Steps.{openingSteps}
 use Rattle.access.proofs.Sequence.{then-works}
 use borrow.Author.Needs.{needs}
 use Rattle.opening.proofs.new.Statement.{statement}

@@ -4,11 +4,11 @@ use borrow.Author.Needs.{needs}
 use Rattle.opening.proofs.open.Statement.{statement}
 use Rattle.opening.proofs.open.Tie as tie
 
-refused-requires : tie.Need-refused-requires
-refused-requires c κs = search needs
-
 new-requires : tie.Need-new-requires
 new-requires c κs = search needs
+
+refused-requires : tie.Need-refused-requires
+refused-requires c κs = search needs
 
 ended-requires : tie.Need-ended-requires
 ended-requires c κs = search needs
@@ -19,8 +19,10 @@ with-rate-requires c κs = search needs
 returns : tie.Need-returns
 returns c =
     let ended = c .before in
-    let test = ended .before .before in
-    refused-opens _ _ _ _ (test .before .refused .ensures) (test .if1 .taken) (ended .before .new .ensures) (ended .ended .ensures) (c .with-rate .ensures)
+    let test = ended .before in
+    let refused = test .before in
+    let begun = refused .before .before in
+    refused-opens _ _ _ _ (refused .refused .ensures) (test .if1 .taken) (begun .new .ensures) (ended .ended .ensures) (c .with-rate .ensures)
 
 clamp-target-requires : tie.Need-clamp-target-requires
 clamp-target-requires c κs = search needs
@@ -32,13 +34,11 @@ rate-requires : tie.Need-rate-requires
 rate-requires c κs = search needs
 
 new-requires-2 : tie.Need-new-requires-2
-new-requires-2 c κs = search needs
-
-new-requires-3 : tie.Need-new-requires-3
-new-requires-3 c κs =
-    let begun = c .before in
-    let test = begun .before .before .before .before in
-    (rw (begun .new2 .ensures) (omega arith), accepted _ _ _ _ _ (test .before .refused .ensures) (test .if1 .left))
+new-requires-2 c κs =
+    let test = c .before .before .before .before in
+    let refused = test .before in
+    let begun = refused .before .before in
+    (rw (begun .new .ensures) (omega arith), accepted _ _ _ _ _ (refused .refused .ensures) (test .if1 .left))
 
 with-rate-requires-2 : tie.Need-with-rate-requires-2
 with-rate-requires-2 c κs = search needs
@@ -49,20 +49,21 @@ same-length c = search needs
 returns-2 : tie.Need-returns-2
 returns-2 c =
     let run = c .before .before .before in
-    let begun = run .before .before in
-    let rate = begun .before in
+    let rate = run .before .before in
     let chosen = rate .before in
     let target = chosen .before in
     let test = target .before in
-    runs-opens _ _ _ _ (test .before .refused .ensures) (test .if1 .left) (begun .new2 .ensures) (target .clamp-target .ensures) (chosen .select-clock .ensures)
-    (rate .rate .ensures) (run .new3 .ensures) (c .with-rate2 .ensures)
+    let refused = test .before in
+    let begun = refused .before .before in
+    runs-opens _ _ _ _ (refused .refused .ensures) (test .if1 .left) (begun .new .ensures) (target .clamp-target .ensures) (chosen .select-clock .ensures)
+    (rate .rate .ensures) (run .new2 .ensures) (c .with-rate2 .ensures)
 
 pub open-spec : {M : Type 1} → statement M
 open-spec =
     tie.close
     (tie.spec
-    refused-requires
     new-requires
+    refused-requires
     ended-requires
     with-rate-requires
     returns
@@ -70,7 +71,6 @@ open-spec =
     select-clock-requires
     rate-requires
     new-requires-2
-    new-requires-3
     with-rate-requires-2
     same-length
     returns-2)
