@@ -2,7 +2,7 @@
 use mathlib.Core.Path.{_≡_, refl, sym, ap, _∙_}
 use mathlib.Core.Bool.{Bool, true, false, cond, not, _&&_}
 use mathlib.Core.List.{List}
-use Prim.Native.Nat.{ℕ, _+_, _≤_, _<_, min}
+use Prim.Native.Nat.{ℕ, _≤_, _<_}
 use native.Mathlib.Omega.{arith}
 use lib.Dec.{eqb, ltb}
 use borrow.Author.Tests.{ne-eqb, ltb-false}
@@ -19,9 +19,6 @@ use Rattle.clock.specs.Dummies.{clamped}
 use Rattle.access.specs.declared.progress.Progress.{Progress}
 use Rattle.access.specs.Of.{begun, withNumber}
 use Rattle.access.specs.Does.{Works}
-use Rattle.setups.specs.declared.clock_word.ClockWord as word
-use Rattle.changes.specs.declared.change.Change as change
-use Rattle.changes.specs.Of.{changeOf}
 use Rattle.opening.specs.Steps.{openingSteps, releaseSteps}
 use Rattle.opening.specs.declared.Opened.{Opened}
 use Rattle.opening.specs.Call.{Opening, refusal, openingRefusal, rateOf, stepsOf, opens, releases, openedWith, Opens, Releases}
@@ -63,8 +60,8 @@ module _ (o : Opening) (limit : ℕ) (answers log : List ℕ) {n : ℕ} (r : n �
       let w' = rw (chosen-steps o t e h, b) at w in
       record { result = λ m. rw (← r, called-runs (stepsOf o) limit answers log m z, f, chosen-rate o t e h, ← (w' .does limit .state m)) refl }
 
-pub released : {instance place : ℕ} {answers log log' : List ℕ} {p r : Progress} → place ≡ 0x1000 + min instance 3 → p ≡ begun
-    → Works (changeOf (change.the-variants.Clock place word.the-variants.Off)) answers p log r log' → Releases instance answers log r log'
-unfolding releases releaseSteps
-released {answers = answers} {log = log} e b w =
-    record { state = λ limit m. (rw (b, e) at (w .does limit .state m)) ∙ sym (called-runs _ limit answers log m refl) }
+pub released : {instance : ℕ} {answers log log' : List ℕ} {p r : Progress} → p ≡ begun → Works (releaseSteps instance) answers p log r log'
+    → Releases instance answers log r log'
+unfolding releases
+released {answers = answers} {log = log} b w =
+    record { state = λ limit m. (rw b at (w .does limit .state m)) ∙ sym (called-runs _ limit answers log m refl) }

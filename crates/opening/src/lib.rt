@@ -3,7 +3,7 @@ ghost use mathlib.Core.Path.{_≡_};
 ghost use Prim.Native.Nat.{_<_};
 ghost use Rattle.clock.specs.Answer.{sck};
 ghost use Rattle.access.specs.Does.{Sound, Works};
-ghost use Rattle.opening.specs.Steps.{openingSteps};
+ghost use Rattle.opening.specs.Steps.{openingSteps, releaseSteps};
 ghost use Rattle.opening.specs.Call.{openingOf, openedWith, Opens, Releases};
 use access::Progress;
 use changes::Change;
@@ -40,7 +40,7 @@ fn rate(pll: u32, mod_div: u8, divider: DividerSelect) -> u32
 }
 
 // The steps of an opening, from a progress on: `new` after its tests and its choice of clock.
-fn new(
+pub fn new(
     progress: Progress,
     log: &mut [u32],
     answers: &[u32],
@@ -125,10 +125,18 @@ pub fn open(
     with_rate(progress, sck_hz)
 }
 
+// Disables the clock of an instance and resets its module, from a progress on.
+pub fn release(progress: Progress, log: &mut [u32], answers: &[u32], instance: u32) -> Progress
+    requires { ⌜ Sound progress ⌝ }
+    ensures { λ r. ⌜ Works (releaseSteps instance) (now (answers .entry)) progress (now (log .entry)) r (now (log .exit)) ⌝ }
+{
+    let off = Change::Clock(module_clock::clock_place(instance), ClockWord::Off);
+    changes::modify(progress, log, answers, off)
+}
+
 // Disables the clock of an instance and resets its module.
 pub fn free(instance: u32, log: &mut [u32], answers: &[u32]) -> Progress
     ensures { λ r. ⌜ Releases instance (now (answers .entry)) (now (log .entry)) r (now (log .exit)) ⌝ }
 {
-    let off = Change::Clock(module_clock::clock_place(instance), ClockWord::Off);
-    changes::modify(Progress::new(), log, answers, off)
+    release(Progress::new(), log, answers, instance)
 }
