@@ -1,0 +1,4 @@
+pub mod KindLaws
+pub mod WalkLaws
+pub mod Lengths
+pub mod Settled

@@ -1,0 +1,4 @@
+pub mod Kinds
+pub mod Check
+pub mod Laws
+pub mod Settled
