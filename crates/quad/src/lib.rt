@@ -79,7 +79,7 @@ fn quad_end(limit: u32, progress: Progress, log: &mut [u32], answers: &[u32]) ->
 }
 
 // Reads `data` on four lines after a frame on one.
-fn read_framed(
+pub fn read_framed(
     limit: u32,
     progress: Progress,
     log: &mut [u32],

@@ -1,15 +1,16 @@
 -- A transfer in place: one part, and what is left after i bytes.
 use mathlib.Core.Path.{_≡_, refl, ap, sym, _∙_}
 use mathlib.Core.List.{List, _++_}
-use Prim.Native.Nat.{ℕ, suc, _+_, _-_, _/_, _≤_, _<_, min}
+use Prim.Native.Nat.{ℕ, zero, suc, _+_, _-_, _/_, _≤_, _<_, min}
 use native.Mathlib.Omega.{arith}
-use native.Mathlib.Nat.{add-zero}
+use native.Mathlib.Nat.{add-zero, add-assoc}
 use lib.ListN.{length, take, drop, length-take, length-drop, length-append}
-use lib.Seq.{take-length, take-append-seam, drop-append-seam}
+use lib.Seq.{take-length, take-append-seam, take-append-le, drop-append-le, drop-append-add}
 use Rattle.model.specs.Steps.{Steps, then}
 use Rattle.model.specs.State.{advance}
 use Rattle.model.specs.Frame.{Inside}
-use Rattle.model.specs.Frame.Inside.{looks}
+use Rattle.model.specs.Steps.End.{done}
+use Rattle.model.specs.Frame.Inside.{ends, looks}
 use Rattle.model.proofs.Advance.{onto, ended, skipped}
 use Rattle.model.proofs.Frame.{then-inside}
 use Rattle.model.proofs.Next.{look-next}
@@ -33,16 +34,32 @@ unfolding partSteps
 part-runs {limit} {answers} {p} {log = log} {part = part} e f =
     record { sound = f .sound; state = f .state ∙ sym (look-next _ limit answers (stateOf p log part) ∙ rw (take-length part, e) refl) }
 
--- a part stands in the whole memory as it stands by itself
-part-inside : (at n : ℕ) → Inside at n (partSteps at n) (partSteps 0 n)
+-- k bytes from index i on, of a memory that stands in a larger one
+inner : (before m behind : List ℕ) (i k : ℕ) → i + k ≤ length m → take k (drop (length before + i) (before ++ (m ++ behind))) ≡ take k (drop i m)
+inner before m behind i k h =
+    rw (drop-append-add before (m ++ behind) i, drop-append-le i m behind (omega arith))
+    (take-append-le k (drop i m) behind (simp length-drop (omega arith)))
+
+-- A part of a window stands in the whole memory as it stands in the window.
+part-inside : (at n i k : ℕ) → i + k ≤ n → Inside at n (partSteps (at + i) k) (partSteps i k)
 unfolding partSteps transferSteps
-part-inside at n = looks inside
+part-inside at n i k h = looks inside
   where
     inside : (before m behind : List ℕ) → length before ≡ at → length m ≡ n
-        → Inside at n (transferSteps (take n (drop at (before ++ (m ++ behind)))) at n) (transferSteps (take n (drop 0 m)) 0 n)
+        → Inside at n (transferSteps (take k (drop (at + i) (before ++ (m ++ behind)))) (at + i) k) (transferSteps (take k (drop i m)) i k)
     inside before m behind b l =
-        rw (← b, ← l, drop-append-seam before (m ++ behind), take-append-seam m behind, take-length m)
-        (then-inside (tx-inside _ m) (rw add-zero at (rx-inside {at = length before} {n = length m} 0 (length m) (omega arith))))
+        rw (← b, inner before m behind i k (omega arith)) (then-inside (tx-inside _ (take k (drop i m))) (rx-inside i k (omega arith)))
+
+parts-inside : (count at n i k : ℕ) → i + k ≤ n → Inside at n (parts count (at + i) k) (parts count i k)
+unfolding parts
+parts-inside zero at n i k h = ends done
+parts-inside (suc count) at n i k h =
+    then-inside (part-inside at n i (min 256 k) (omega arith))
+    (rw (add-assoc at i (min 256 k)) (parts-inside count at n (i + min 256 k) (k - min 256 k) (omega arith)))
+
+pub in-place-inside : (at n : ℕ) → Inside at n (inPlaceSteps at n) (inPlaceSteps 0 n)
+unfolding inPlaceSteps
+in-place-inside at n = rw add-zero at (parts-inside ((n + 255) / 256) at n 0 n (omega arith))
 
 -- exchanging, after i bytes
 pub record Exchanging (buf : List ℕ) (limit : ℕ) (answers : List ℕ) (p : Progress) (log : List ℕ) (r : Progress) (log' buf' : List ℕ) (i : ℕ) : Type 0 where
@@ -82,7 +99,7 @@ module _ {buf buf' answers : List ℕ} {limit : ℕ} {p r : Progress} {log log' 
         state =
             onto _ _ limit answers (stateOf r log' buf')
             (on .state ∙ ap (λ s. advance s limit answers (stateOf r log' buf')) (parts-next i (length buf) len h e))
-            (runs-part (partSteps i len) (partSteps 0 len) i len (omega arith) (part-inside i len) (rw l at f) .state);
+            (runs-part (partSteps i len) (partSteps 0 len) i len (omega arith) (rw add-zero at (part-inside i len 0 len (omega arith))) (rw l at f) .state);
       }
 
   pub exchanging-stops : (r .number ≡ 0 → ⊥) → Runs (inPlaceSteps 0 (length buf)) limit answers p log buf r log' buf'
