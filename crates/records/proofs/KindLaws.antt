@@ -1,15 +1,19 @@
 -- What the table of kinds says of the kinds that the code does not name, and a record word by word.
 
-use Prim.Native.Nat.{ℕ, zero, suc, _+_, _-_, _*_, _≤_}
-use mathlib.Core.Path.{_≡_, refl, ap}
-use mathlib.Core.List.{List, [], _∷_}
+use Prim.Native.Nat.{ℕ, zero, suc, _+_, _-_, _*_, _^_, _≤_, _<_}
+use mathlib.Core.Path.{_≡_, refl, sym, ap}
+use mathlib.Core.Bool.{Bool, true, false, cond, _&&_, _||_}
+use mathlib.Core.List.{List, [], _∷_, map}
 use native.Mathlib.Numerals.{add-one}
 use native.Mathlib.Nat.{add-assoc}
 use native.Mathlib.Omega.{arith}
 use lib.ListN.{length, getD, take, drop}
 use lib.Seq.{drop-cons}
 use Rattle.records.specs.Kinds.{kindOf}
-use Rattle.records.specs.Check.{recordAt}
+use lib.Dec.{ltb}
+use borrow.Author.Tests.{ltb-false}
+use Rattle.records.specs.Check.{recordAt, field, any, outsideOf, tooLong, extentIn, extentsFault, windowsFault}
+use Rattle.records.specs.declared.Extent.{Extent}
 
 pub no-caps : (k : ℕ) → (k ≡ 7 → ⊥) → (k ≡ 8 → ⊥) → kindOf k .caps ≡ []
 no-caps zero p q = refl
@@ -65,3 +69,36 @@ pub record-words :
     ≡ recordAt ws i
 unfolding recordAt
 record-words ws i p h = simp add-assoc at (from-part 8 (8 * (i - 1)) ws (omega arith))
+
+-- Every window lies in a memory, and every length of a phase fits one.
+abbrev pub AllIn : ℕ → List Extent → Type 0
+AllIn memory [] = Unit {0}
+AllIn memory (e ∷ es) = ((e .start + e .size ≤ memory) × (e .phase ≡ true → e .size < 2 ^ 24)) × AllIn memory es
+
+not-9 : (b c : Bool) → _≡_ {A = ℕ} (cond b 9 (cond c 6 0)) 0 → (b ≡ false) × (c ≡ false)
+not-9 true c e = absurd (omega (arith, e))
+not-9 false true e = absurd (omega (arith, e))
+not-9 false false e = (refl, refl)
+
+neither : (a b : Bool) → (a || b) ≡ false → (a ≡ false) × (b ≡ false)
+neither true b e = let z : _≡_ {A = ℕ} 0 1 = cc in absurd (omega arith)
+neither false b e = (refl, e)
+
+short-phase : (p : Bool) (n : ℕ) → (p && ltb 0xFFFFFF n) ≡ false → p ≡ true → n < 2 ^ 24
+short-phase true n e q = let h : n ≤ 0xFFFFFF = ltb-false _ _ e in omega arith
+short-phase false n e q = let z : _≡_ {A = ℕ} 0 1 = cc in absurd (omega arith)
+
+in-each : (memory : ℕ) (es : List Extent) → any (outsideOf memory) es ≡ false → any tooLong es ≡ false → AllIn memory es
+in-each memory [] a b = tt
+in-each memory (x ∷ es) a b =
+    let i = neither (outsideOf memory x) (any (outsideOf memory) es) a in
+    let j = neither (tooLong x) (any tooLong es) b in
+    ((ltb-false memory (x .start + x .size) (i .0), short-phase (x .phase) (x .size) (j .0)), in-each memory es (i .1) (j .1))
+
+-- The windows of a record without a fault, by its kind.
+pub windows-in : (memory : ℕ) (r : List ℕ) (k : ℕ) → field r 0 ≡ k → windowsFault memory r ≡ 0 → AllIn memory (map (extentIn r) (kindOf k .windows))
+unfolding windowsFault extentsFault
+windows-in memory r k e z =
+    let es = map (extentIn r) (kindOf (field r 0) .windows) in
+    let n = not-9 (any (outsideOf memory) es) (any tooLong es) z in
+    rw e at (in-each memory es (n .0) (n .1))

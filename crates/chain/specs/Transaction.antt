@@ -1,0 +1,36 @@
+-- What a transaction, or a sheet's chain, gives its user for every input (document 01, "Transaction").
+use mathlib.Core.Path.{_≡_}
+use mathlib.Core.Bool.{Bool, cond}
+use mathlib.Core.List.{List}
+use Prim.Native.Nat.{ℕ}
+use lib.Dec.{eqb}
+use lib.ListN.{length}
+use Rattle.model.specs.State.{State, called}
+use Rattle.access.specs.declared.progress.Progress.{Progress}
+use Rattle.access.specs.Of.{stateOf}
+use Rattle.records.specs.Check.{Checked, checked, chainOf}
+use Rattle.chain.specs.Chain.{chainSteps}
+
+abbrev pub faultNumber : Checked → ℕ
+faultNumber (Checked.fault n i) = n
+faultNumber (Checked.chain rs) = 0
+
+-- 7, then the first fault along the chain
+unfoldable pub refusal : ℕ → Checked → ℕ
+refusal limit c = cond (eqb limit 0) 7 (faultNumber c)
+
+-- a chain on a bus: its rate, whether the chip has QPI, the highest kind that is taken, and the words of the records
+pub record Chain : Type 0 where
+  pub rate : ℕ
+  pub qpi : Bool
+  pub highest : ℕ
+  pub words : List ℕ
+
+-- Number, counts, log and memory.
+unfoldable pub outcome : Chain → ℕ → List ℕ → List ℕ → List ℕ → State
+outcome c limit answers log m =
+    let found = checked (c .highest) (length m) (c .words) in
+    called (refusal limit found) (chainSteps (c .rate) (c .qpi) (chainOf found)) limit answers log m
+
+pub record Transacts (c : Chain) (limit : ℕ) (answers log m : List ℕ) (r : Progress) (log' m' : List ℕ) : Type 0 where
+  pub state : stateOf r log' m' ≡ outcome c limit answers log m

@@ -1,0 +1,2 @@
+// Chains of records, checked whole and then run.
+pub mod record;
