@@ -1,2 +1,3 @@
 pub mod ByKind
 pub mod Running
+pub mod Entry

@@ -77,9 +77,10 @@ module _ (hz : ℕ) (qpi : Bool) (highest : ℕ) (ws : List ℕ) where
 
     pub runs-on : {rec : List ℕ} → rec ≡ recordAt ws own → (windowsFault (length m') rec ≡ 0) × (outOfRange rec ≡ false)
     runs-on e =
-        rw (on .same, e)
-        (sound-windows highest (length m) (length ws / 8) own (recordAt ws own) no-fault,
-        in-range highest (length m) (length ws / 8) own (recordAt ws own) no-fault)
+        rw (on .same, e) (
+          sound-windows highest (length m) (length ws / 8) own (recordAt ws own) no-fault,
+          in-range highest (length m) (length ws / 8) own (recordAt ws own) no-fault,
+        )
 
     module _ {rec : List ℕ} {t : Progress} {log'' m'' : List ℕ} (e : rec ≡ recordAt ws own) (d : Runs (recordSteps hz qpi rec) limit answers r log' m' t log'' m'') where
       -- once the record is run, what is left are the records behind it

@@ -2,11 +2,14 @@
 ghost use mathlib.Core.Path.{_≡_};
 ghost use Prim.Native.Nat.{_<_};
 ghost use lib.ListN.{length};
-ghost use Rattle.records.specs.declared.Verdict.{Verdict};
+ghost use Rattle.records.specs.declared.Verdict as declared;
 ghost use Rattle.records.specs.Check.{checked, verdict, chainOf};
 ghost use Rattle.access.specs.Does.{Sound, Runs};
 ghost use Rattle.chain.specs.Chain.{chainSteps};
+ghost use Rattle.chain.specs.Transaction.{refusal, Transacts};
 use access::Progress;
+use config::number;
+use records::Verdict;
 
 pub mod record;
 
@@ -24,7 +27,7 @@ pub fn run_chain(
 ) -> Progress
     requires { ⌜ Sound progress ⌝ }
     requires { ⌜ 0 < limit ⌝ }
-    requires { ⌜ verdict (checked highest (length (now memory)) (now words)) ≡ Verdict.Fine ⌝ }
+    requires { ⌜ verdict (checked highest (length (now memory)) (now words)) ≡ declared.Verdict.Fine ⌝ }
     ensures { λ r. ⌜ Runs (chainSteps hz qpi (chainOf (checked highest (length (now (memory .entry))) (now (words .entry))))) limit (now (answers .entry)) progress (now (log .entry)) (now (memory .entry)) r (now (log .exit)) (now (memory .exit)) ⌝ }
 {
     let mut current = progress;
@@ -45,4 +48,48 @@ pub fn run_chain(
         }
         own = next;
     }
+}
+
+// 7, then the number of the first fault along the chain; else 0.
+fn refused(limit: u32, words: &[u32], highest: u32, memory: usize) -> u32
+    ensures { λ r. ⌜ r ≡ refusal limit (checked highest memory (now (words .entry))) ⌝ }
+{
+    if limit == 0 {
+        return number::LIMIT;
+    }
+    let found = records::check(words, highest, memory);
+    match found {
+        Verdict::Fine => number::DONE,
+        Verdict::Fault { number, record: _ } => number,
+    }
+}
+
+// A chain of kinds up to `highest`: the whole of it is checked before any access. `hz`: the rate of the bus; `qpi`: the chip has QPI.
+pub fn transact(
+    limit: u32,
+    hz: u32,
+    qpi: bool,
+    highest: u32,
+    log: &mut [u32],
+    answers: &[u32],
+    memory: &mut [u8],
+    words: &[u32],
+) -> Progress
+    ensures { λ r. ⌜ Transacts (record { rate = hz; qpi = qpi; highest = highest; words = now (words .entry) }) limit (now (answers .entry)) (now (log .entry)) (now (memory .entry)) r (now (log .exit)) (now (memory .exit)) ⌝ }
+{
+    let refused = refused(limit, words, highest, memory.len());
+    if refused != 0 {
+        return Progress::new().ended(refused);
+    }
+    run_chain(
+        limit,
+        hz,
+        qpi,
+        highest,
+        Progress::new(),
+        log,
+        answers,
+        memory,
+        words,
+    )
 }

@@ -71,7 +71,15 @@ pub fn run_record(
     match r[0] {
         1 => windows::write(limit, progress, log, answers, memory, first),
         2 => windows::read(limit, progress, log, answers, memory, first),
-        3 => windows::transfer(limit, progress, log, answers, memory, first, span(r[3], r[4])),
+        3 => windows::transfer(
+            limit,
+            progress,
+            log,
+            answers,
+            memory,
+            first,
+            span(r[3], r[4]),
+        ),
         4 => windows::transfer_in_place(limit, progress, log, answers, memory, first),
         5 => access::entry::perform(progress, log, Act::Delay(delay_cycles(r[1]))),
         6 => waits::wait_transfer_done(limit, progress, log, answers),
@@ -88,7 +96,15 @@ pub fn run_record(
             r[4] as u8,
             span(r[5], r[6]),
         ),
-        9 => windows::write_quad(limit, progress, log, answers, memory, first, span(r[5], r[6])),
+        9 => windows::write_quad(
+            limit,
+            progress,
+            log,
+            answers,
+            memory,
+            first,
+            span(r[5], r[6]),
+        ),
         _ => progress,
     }
 }

@@ -1,6 +1,7 @@
--- 6 is never given where the memory has at most FFFFFF hex bytes, as in a sheet: a length above that lies outside, and 9 comes first.
+-- Which numbers the check never gives.
 use Prim.Native.Nat.{ℕ, zero, suc, _+_, _≤_, _<_, _/_, _%_}
-use mathlib.Core.Path.{_≡_, refl}
+use mathlib.Core.Path.{_≡_, refl, sym, _∙_}
+use mathlib.Core.Logic.{_⊎_, inl, inr}
 use mathlib.Core.Bool.{Bool, true, false, cond, _&&_, _||_}
 use mathlib.Core.List.{List, [], _∷_, map}
 use native.Mathlib.Omega.{arith}
@@ -8,8 +9,8 @@ use lib.ListN.{length}
 use lib.Dec.{ltb, eqb}
 use borrow.Author.Tests.{ltb-false, le-ltb}
 use Rattle.records.specs.Kinds.{kindOf}
-use Rattle.records.specs.Check.{any, outsideOf, tooLong, extentIn, extentsFault, windowsFault, outOfRange, known, nextFits, nextOf, field, recordFault, Checked, chain, ahead, step, recordsIn, along, checked}
-use Rattle.records.specs.Laws.{Not6, Never6}
+use Rattle.records.specs.Check.{any, outsideOf, tooLong, extentIn, extentsFault, windowsFault, outOfRange, known, nextFits, nextOf, field, recordFault, Checked, fault, ahead, step, recordsIn, along, checked}
+use Rattle.records.specs.Laws.{EachFault, Never6, FaultNumbers}
 use Rattle.records.specs.declared.Extent.{Extent}
 
 short : (p : Bool) (n : ℕ) → n ≤ 0xFFFFFF → (p && ltb 0xFFFFFF n) ≡ false
@@ -48,32 +49,55 @@ module _ (memory : ℕ) (small : memory ≤ 0xFFFFFF) where
       go true false false p = omega arith
       go false b c p = omega arith
 
-  ahead-6 : (r : List ℕ) (c : Checked) → Not6 c → Not6 (ahead r c)
-  ahead-6 r (Checked.fault n i) h = h
-  ahead-6 r (Checked.chain rs) h = tt
+-- What every fault's number is, along a chain: what it is of every record.
+module _ (P : ℕ → Type 0) (highest memory count : ℕ) (each : (own : ℕ) (r : List ℕ) (n : ℕ) → recordFault highest memory count own r ≡ suc n → P (suc n)) where
+  ahead-each : (r : List ℕ) (c : Checked) → EachFault P c → EachFault P (ahead r c)
+  ahead-each r (Checked.fault n i) h = h
+  ahead-each r (Checked.chain rs) h = tt
 
-  step-6 : (n own : ℕ) (r : List ℕ) (rest : Checked) → (n ≡ 6 → ⊥) → Not6 rest → Not6 (step n own r rest)
-  step-6 zero own r rest h k = ahead-6 r rest k
-  step-6 (suc n) own r rest h k = h
+  step-each : (n own : ℕ) (r : List ℕ) (rest : Checked) → recordFault highest memory count own r ≡ n → EachFault P rest → EachFault P (step n own r rest)
+  step-each zero own r rest e k = ahead-each r rest k
+  step-each (suc n) own r rest e k = each own r n e
 
-  ended-6 : (b : Bool) (c : Checked) → Not6 c → Not6 (cond b (chain []) c)
-  ended-6 true c h = tt
-  ended-6 false c h = h
-
-  either-6 : (b : Bool) (c d : Checked) → Not6 c → Not6 d → Not6 (cond b c d)
-  either-6 true c d h k = h
-  either-6 false c d h k = k
-
-  along-6 : (highest count : ℕ) (rs : List (List ℕ)) (own due : ℕ) → Not6 (along highest memory count rs own due)
+  pub along-each : (rs : List (List ℕ)) (own due : ℕ) → EachFault P (along highest memory count rs own due)
   unfolding along
-  along-6 highest count [] own due = tt
-  along-6 highest count (r ∷ rs) own due =
-      either-6 (eqb own due) _ _
-      (step-6 (recordFault highest memory count own r) own r _ (record-6 highest count own r)
-      (ended-6 (eqb (nextOf r) 0) _ (along-6 highest count rs (suc own) (nextOf r))))
-      (along-6 highest count rs (suc own) due)
+  along-each [] own due = tt
+  along-each (r ∷ rs) own due =
+      either (eqb own due) _ _
+      (step-each (recordFault highest memory count own r) own r _ refl (either (eqb (nextOf r) 0) _ _ tt (along-each rs (suc own) (nextOf r))))
+      (along-each rs (suc own) due)
+    where
+      either : (b : Bool) (c d : Checked) → EachFault P c → EachFault P d → EachFault P (cond b c d)
+      either true c d h k = h
+      either false c d h k = k
+
+checked-each : (P : ℕ → Type 0) (highest memory : ℕ) (ws : List ℕ) → P 8
+    → ((own : ℕ) (r : List ℕ) (n : ℕ) → recordFault highest memory (length ws / 8) own r ≡ suc n → P (suc n)) → EachFault P (checked highest memory ws)
+unfolding checked
+checked-each P highest memory ws eight each = by (eqb (length ws % 8) 0)
+  where
+    by : (b : Bool) → EachFault P (cond b (along highest memory (length ws / 8) (recordsIn (length ws / 8) ws) 1 1) (fault 8 0))
+    by true = along-each P highest memory (length ws / 8) each (recordsIn (length ws / 8) ws) 1 1
+    by false = eight
 
 pub never-6 : Never6
-unfolding checked
 never-6 memory small highest ws =
-    either-6 memory small (eqb (length ws % 8) 0) _ _ (along-6 memory small highest (length ws / 8) (recordsIn (length ws / 8) ws) 1 1) (λ e. omega arith)
+    checked-each (λ n. n ≡ 6 → ⊥) highest memory ws (λ e. omega (arith, e)) (λ own r n e z. record-6 memory small highest (length ws / 8) own r (e ∙ z))
+
+record-number : (highest memory count own : ℕ) (r : List ℕ) (n : ℕ) → recordFault highest memory count own r ≡ suc n → (suc n ≡ 6) ⊎ (suc n ≡ 8) ⊎ (suc n ≡ 9)
+unfolding recordFault windowsFault extentsFault
+record-number highest memory count own r n =
+    let es = map (extentIn r) (kindOf (field r 0) .windows) in
+    go (known highest (field r 0)) (outOfRange r) (nextFits own count (nextOf r)) (any (outsideOf memory) es) (any tooLong es)
+  where
+    go : (a b c d e : Bool) → _≡_ {A = ℕ} (cond a (cond b 8 (cond c (cond d 9 (cond e 6 0)) 8)) 8) (suc n) → (suc n ≡ 6) ⊎ (suc n ≡ 8) ⊎ (suc n ≡ 9)
+    go true true c d e p = inr (inl (sym p))
+    go true false true true e p = inr (inr (sym p))
+    go true false true false true p = inl (sym p)
+    go true false true false false p = absurd (omega (arith, p))
+    go true false false d e p = inr (inl (sym p))
+    go false b c d e p = inr (inl (sym p))
+
+pub fault-numbers : FaultNumbers
+fault-numbers highest memory ws =
+    checked-each (λ n. (n ≡ 6) ⊎ (n ≡ 8) ⊎ (n ≡ 9)) highest memory ws (inr (inl refl)) (record-number highest memory (length ws / 8))

@@ -1,13 +1,19 @@
 -- What is proved of the check, whatever the words.
 use mathlib.Core.Path.{_≡_}
 use mathlib.Core.List.{List}
+use mathlib.Core.Logic.{_⊎_}
 use Prim.Native.Nat.{ℕ, _≤_}
 use Rattle.records.specs.Check.{Checked, checked}
 
-abbrev pub Not6 : Checked → Type 0
-Not6 (Checked.fault n i) = n ≡ 6 → ⊥
-Not6 (Checked.chain rs) = Unit {0}
+-- a fault has such a number
+abbrev pub EachFault : (ℕ → Type 0) → Checked → Type 0
+EachFault P (Checked.fault n i) = P n
+EachFault P (Checked.chain rs) = Unit {0}
 
 -- 6 is never given where the memory has at most FFFFFF hex bytes, as in a sheet: a length above that lies outside, and 9 comes first.
 abbrev pub Never6 : Type 0
-Never6 = (memory : ℕ) → memory ≤ 0xFFFFFF → (highest : ℕ) (words : List ℕ) → Not6 (checked highest memory words)
+Never6 = (memory : ℕ) → memory ≤ 0xFFFFFF → (highest : ℕ) (words : List ℕ) → EachFault (λ n. n ≡ 6 → ⊥) (checked highest memory words)
+
+-- a fault is 6, 8 or 9
+abbrev pub FaultNumbers : Type 0
+FaultNumbers = (highest memory : ℕ) (words : List ℕ) → EachFault (λ n. (n ≡ 6) ⊎ (n ≡ 8) ⊎ (n ≡ 9)) (checked highest memory words)

@@ -4,7 +4,6 @@ ghost use mathlib.Core.List.{[], _∷_};
 ghost use Prim.Native.Nat.{_*_, _≤_};
 ghost use lib.ListN.{length};
 ghost use Rattle.records.specs.Check.{recordAt, known, outOfRange, nextFits, outsideOf, tooLong, extentsFault, windowsFault, recordFault, checked, verdict};
-
 use config::number;
 
 // What the check says.

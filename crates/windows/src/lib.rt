@@ -124,7 +124,14 @@ pub fn read_quad(
     let framed = quad::frame::quad_frame(window(memory, command), dummies);
     let start = to.start;
     let end = start + to.len;
-    quad::read_framed(limit, progress, log, answers, framed, &mut memory[start..end])
+    quad::read_framed(
+        limit,
+        progress,
+        log,
+        answers,
+        framed,
+        &mut memory[start..end],
+    )
 }
 
 // Writes a window on four lines, after another on one.
