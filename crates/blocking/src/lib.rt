@@ -5,6 +5,8 @@ ghost use Rattle.clock.specs.Dummies.{dummies};
 ghost use Rattle.bus.specs.Calls.{Call};
 ghost use Rattle.bus.specs.Does.{Called, CalledOn};
 ghost use Rattle.opening.specs.Call.{openingOf, Releases};
+ghost use Rattle.chain.specs.Transaction.{Transacts};
+ghost use Rattle.chain.specs.Transaction.{transaction as Transaction·transaction};
 ghost use Rattle.blocking.specs.Opened.{News};
 use access::Progress;
 use config::QspiConfig;
@@ -170,5 +172,18 @@ impl BlockingQspi {
         ensures { λ r. ⌜ Called (Call.writeQuad (now (command .entry)) (now («data» .entry))) (self .limit) (now (answers .entry)) (now (log .entry)) r (now (log .exit)) ⌝ }
     {
         bus::quad_spi_bus::write_quad(self.limit, log, answers, command, data)
+    }
+
+    // Operations on the lent memory, one after the other.
+    pub fn transaction(
+        self,
+        log: &mut [u32],
+        answers: &[u32],
+        memory: &mut [u8],
+        words: &[u32],
+    ) -> Progress
+        ensures { λ r. ⌜ Transacts (Transaction·transaction (now (words .entry))) (self .limit) (now (answers .entry)) (now (log .entry)) (now (memory .entry)) r (now (log .exit)) (now (memory .exit)) ⌝ }
+    {
+        chain::transaction(self.limit, log, answers, memory, words)
     }
 }

@@ -1,6 +1,6 @@
 -- What a transaction, or a sheet's chain, gives its user for every input (document 01, "Transaction").
 use mathlib.Core.Path.{_≡_}
-use mathlib.Core.Bool.{Bool, cond}
+use mathlib.Core.Bool.{Bool, false, cond}
 use mathlib.Core.List.{List}
 use Prim.Native.Nat.{ℕ}
 use lib.Dec.{eqb}
@@ -34,3 +34,7 @@ outcome c limit answers log m =
 
 pub record Transacts (c : Chain) (limit : ℕ) (answers log m : List ℕ) (r : Progress) (log' m' : List ℕ) : Type 0 where
   pub state : stateOf r log' m' ≡ outcome c limit answers log m
+
+-- A transaction takes kinds 1 to 5, which neither the rate nor QPI matters to.
+abbrev pub transaction : List ℕ → Chain
+transaction words = record { rate = 0; qpi = false; highest = 5; words = words }

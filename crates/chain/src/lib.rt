@@ -7,6 +7,7 @@ ghost use Rattle.records.specs.Check.{checked, verdict, chainOf};
 ghost use Rattle.access.specs.Does.{Sound, Runs};
 ghost use Rattle.chain.specs.Chain.{chainSteps};
 ghost use Rattle.chain.specs.Transaction.{refusal, Transacts};
+ghost use Rattle.chain.specs.Transaction.{transaction as Transaction·transaction};
 use access::Progress;
 use config::number;
 use records::Verdict;
@@ -92,4 +93,17 @@ pub fn transact(
         memory,
         words,
     )
+}
+
+// Operations on the lent memory, one after the other: a chain of kinds 1 to 5.
+pub fn transaction(
+    limit: u32,
+    log: &mut [u32],
+    answers: &[u32],
+    memory: &mut [u8],
+    words: &[u32],
+) -> Progress
+    ensures { λ r. ⌜ Transacts (Transaction·transaction (now (words .entry))) limit (now (answers .entry)) (now (log .entry)) (now (memory .entry)) r (now (log .exit)) (now (memory .exit)) ⌝ }
+{
+    transact(limit, 0, false, 5, log, answers, memory, words)
 }

@@ -11,6 +11,8 @@ use Rattle.config.specs.declared.config.WorkModeFound.the-variants.{Mode, Unkno
 use Rattle.config.specs.declared.config.WorkMode.{WorkMode}
 use Rattle.access.specs.Of.{begun, withNumber}
 use Rattle.exports.specs.Calls.{Told, Gives, GivesOn}
+use Rattle.chain.specs.Transaction.{Chain, Transacts}
+use Rattle.exports.specs.Transactions.{GivesChain}
 use Rattle.exports.specs.Modes.{noMode, CalledMode, GivesMode}
 
 module _ {call : Call} {limit : ℕ} {answers log log' : List ℕ} {p : Progress} {number entries taken polls longest : ℕ}
@@ -36,3 +38,8 @@ module _ {found : WorkModeFound} {qpi : Bool} {limit : ℕ} {answers log : List 
   pub called-none : {new : Progress} {n : ℕ} → found ≡ Unknown → new ≡ begun → n ≡ noMode limit → p ≡ withNumber n new
       → CalledMode found qpi limit answers log p log
   called-none e b k q = rw (e, q, b, k) (record { state = λ m. refl })
+
+pub chain-gives : {c : Chain} {limit : ℕ} {answers log m log' m' : List ℕ} {p : Progress} {number entries taken polls longest : ℕ}
+    → Told p number entries taken polls longest → Transacts c limit answers log m p log' m'
+    → GivesChain c limit answers log m log' m' number entries taken polls longest
+chain-gives t d = record { state = rw (t .numbered, t .made, t .answered, t .polled, t .waited) (d .state) }

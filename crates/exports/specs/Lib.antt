@@ -3,3 +3,4 @@ pub mod Calls
 pub mod Modes
 pub mod Opening
 pub mod Clocks
+pub mod Transactions

@@ -20,17 +20,11 @@ const CASES: [(&str, Answer); 14] = [
     ("mode", mode),
     ("quadread", quadread),
     ("quadwrite", quadwrite),
-    ("transaction", missing),
+    ("transaction", transaction),
     ("clock", clock),
     ("sck", sck),
     ("dummy", dummy),
 ];
-
-/// Answers a case that the port's library has no function for yet.
-fn missing(_: &mut Words, out: &mut String) -> Result<(), String> {
-    out.push_str("missing\n");
-    Ok(())
-}
 
 /// What a log word holds before a call, so that one written past the last entry shows.
 const UNTOUCHED: u32 = 0x5AA5_C33C;
@@ -198,6 +192,17 @@ fn quadwrite(w: &mut Words, out: &mut String) -> Result<(), String> {
     })
 }
 
+fn transaction(w: &mut Words, out: &mut String) -> Result<(), String> {
+    let (limit, log_words) = (w.u32()?, w.usize()?);
+    let (records, mut memory) = (w.list()?, w.bytes()?);
+    let given = memory.clone();
+    call(limit, log_words, w, out, |lent| {
+        exports::transaction(lent, &mut memory, &records)
+    })?;
+    changes(&given, &memory, out);
+    Ok(())
+}
+
 fn clock(w: &mut Words, out: &mut String) -> Result<(), String> {
     let (pll, target) = (w.u32()?, w.u32()?);
     w.end()?;
@@ -259,7 +264,7 @@ mod tests {
         let text = String::from_utf8(out).unwrap();
         assert_eq!(
             text,
-            "missing\n.\nend 11 0 0 0 0\n.\nerror flash is no case\n.\nclock 2 1 0 8000000\n.\n"
+            "end 0 0 0 0 0\n.\nend 11 0 0 0 0\n.\nerror flash is no case\n.\nclock 2 1 0 8000000\n.\n"
         );
     }
 }

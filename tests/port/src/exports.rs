@@ -149,6 +149,21 @@ unsafe extern "C" {
         polls: &mut usize,
         longest: &mut u32,
     ) -> u32;
+    fn qspi_transaction(
+        limit: u32,
+        log: *mut u32,
+        log_len: usize,
+        answers: *const u32,
+        answers_len: usize,
+        memory: *mut u8,
+        memory_len: usize,
+        words: *const u32,
+        words_len: usize,
+        entries: &mut usize,
+        taken: &mut usize,
+        polls: &mut usize,
+        longest: &mut u32,
+    ) -> u32;
     fn qspi_free(
         log: *mut u32,
         log_len: usize,
@@ -334,6 +349,18 @@ pub fn write_quad(lent: &mut Lent, command: &[u8], data: &[u8]) -> Ended {
         command.len(),
         data.as_ptr(),
         data.len()
+    )
+}
+
+/// Records of eight words, on a memory.
+pub fn transaction(lent: &mut Lent, memory: &mut [u8], words: &[u32]) -> Ended {
+    made!(
+        qspi_transaction,
+        lent,
+        memory.as_mut_ptr(),
+        memory.len(),
+        words.as_ptr(),
+        words.len()
     )
 }
 
