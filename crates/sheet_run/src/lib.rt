@@ -5,6 +5,8 @@ use config::number;
 use sheet::Header;
 use sheet::Opened;
 
+pub mod print;
+
 // A sheet of this header.
 fn run_opened(bytes: &mut [u8], log: &mut [u32], h: Header) -> Progress
     requires { ⌜ Heads (now bytes) h ⌝ }
