@@ -5,7 +5,7 @@ use mathlib.Core.List.{List, _++_}
 use Prim.Native.Nat.{ℕ, _+_, _*_, _≤_}
 use native.Mathlib.Omega.{arith}
 use lib.Dec.{eqb}
-use lib.ListN.{length, drop, replicate, length-replicate}
+use lib.ListN.{length, drop, replicate, length-append, length-replicate}
 use Rattle.model.specs.Steps.{Steps}
 use Rattle.model.specs.State.{State, begun, withNumber, advance, called}
 use Rattle.model.proofs.Kept.{every-advance-keeps}
@@ -13,6 +13,7 @@ use Rattle.chain.specs.Transaction.{outcome}
 use Rattle.sheet.specs.Sheet.{Parsed, refused, sheet, parse}
 use Rattle.access.specs.declared.progress.Progress.{Progress}
 use Rattle.lines.specs.Text.{printed, Wrote}
+use Rattle.sheet_run.specs.declared.print.Printed.{Printed}
 use Rattle.sheet_run.specs.Run.{sheetOutcome, sheetState, RunsSheet}
 use Rattle.sheet_run.specs.Print.{progressIn, marked, printedSheet, Prints}
 
@@ -52,3 +53,7 @@ module _ (bs : List ℕ) {p : Progress} {log' bs' : List ℕ} (d : RunsSheet bs 
         count = w .place ∙ z ∙ ap length e;
         bytes = ap (λ st. st .memory) (d .state);
       }
+
+-- the text lies in its buffer
+pub prints-within : {bs bs' : List ℕ} {r : Printed} → Prints bs r bs' → r .length ≤ length (r .text)
+prints-within {bs} {r = r} d = rw (d .count, d .text) (simp length-append (omega arith))
