@@ -2,11 +2,11 @@
 use mathlib.Core.Bool.{Bool, true, false, cond}
 use mathlib.Core.List.{List, [], _∷_}
 use Prim.Native.Nat.{ℕ}
-use lib.Dec.{eqb, ltb}
+use lib.Dec.{ltb}
 use lib.ListN.{length}
 use Rattle.model.specs.Wait.Cause.{start}
 use Rattle.model.specs.Steps.{Steps, waitFor}
-use Rattle.model.specs.State.{State, called}
+use Rattle.model.specs.State.{State, limitFirst, called}
 use Rattle.config.specs.declared.config.WorkMode.{WorkMode}
 use Rattle.clock.specs.Dummies.{dummies}
 use Rattle.qspi.specs.Phases.{txPhase, rxPhase}
@@ -53,7 +53,7 @@ tooLong (n ∷ ns) = cond (ltb 0xFFFFFF n) 6 (tooLong ns)
 
 -- what is refused before any access: 7 for limit 0, then 6; else 0
 unfoldable pub refusal : ℕ → List ℕ → ℕ
-refusal limit lengths = cond (eqb limit 0) 7 (tooLong lengths)
+refusal limit lengths = limitFirst limit (tooLong lengths)
 
 -- number, counts, log and memory
 unfoldable pub outcome : Call → ℕ → List ℕ → List ℕ → List ℕ → State

@@ -1,14 +1,11 @@
 -- A transaction as a user calls it: refused, or run from no entry and the first answer on; and demand 3 for it.
 use mathlib.Core.Path.{_≡_, refl, sym, ap, _∙_}
-use mathlib.Core.Bool.{Bool, true, false, cond}
 use mathlib.Core.List.{List}
 use mathlib.Core.Logic.{_⊎_, ⊎-elim}
 use Prim.Native.Nat.{ℕ, _<_}
 use native.Mathlib.Omega.{arith}
-use lib.Dec.{eqb}
 use lib.ListN.{length}
-use borrow.Author.Tests.{ne-eqb, eqb-false}
-use Rattle.model.proofs.Called.{called-refused, called-runs, another-limit-called}
+use Rattle.model.proofs.Called.{called-refused, called-runs, limit-accepted, limit-passed, another-limit-first}
 use Rattle.access.specs.declared.progress.Progress.{Progress}
 use Rattle.access.specs.Of.{begun, withNumber}
 use Rattle.access.specs.Does.{Runs}
@@ -31,7 +28,7 @@ number-is (Checked.chain rs) = refl
 
 pub refused-by : {limit : ℕ} {v : Verdict} (c : Checked) → (limit ≡ 0 → ⊥) → v ≡ verdict c → numberOf v ≡ refusal limit c
 unfolding refusal
-refused-by c i e = ap numberOf e ∙ number-is c ∙ rw (ne-eqb _ _ i) refl
+refused-by {limit} c i e = ap numberOf e ∙ number-is c ∙ sym (limit-passed limit (faultNumber c) i)
 
 -- a fault's number is neither 0 nor 2
 fault-not : (n k : ℕ) → (n ≡ 6) ⊎ (n ≡ 8) ⊎ (n ≡ 9) → k < 6 → n ≡ k → ⊥
@@ -45,13 +42,10 @@ found-not (Checked.chain rs) k f h e = (sym e, refl)
 pub accepted : (highest memory : ℕ) (ws : List ℕ) {limit n : ℕ} → n ≡ refusal limit (checked highest memory ws) → n ≡ 0
     → (0 < limit) × (verdict (checked highest memory ws) ≡ Verdict.Fine)
 unfolding refusal
-accepted highest memory ws {limit} e z = by (eqb limit 0) refl (sym e ∙ z)
-  where
-    by : (b : Bool) → eqb limit 0 ≡ b → cond b 7 (faultNumber (checked highest memory ws)) ≡ 0 → (0 < limit) × (verdict (checked highest memory ws) ≡ Verdict.Fine)
-    by true q h = absurd (omega (arith, h))
-    by false q h =
-        let i : limit ≡ 0 → ⊥ = eqb-false _ _ q in
-        (omega arith, found-not (checked highest memory ws) 0 (fault-numbers highest memory ws) (omega arith) h .1)
+accepted highest memory ws {limit} e z =
+    let found = checked highest memory ws in
+    let h = limit-accepted limit (faultNumber found) (sym e ∙ z) in
+    (h .0, found-not found 0 (fault-numbers highest memory ws) (omega arith) (h .1) .1)
 
 module _ (c : Chain) {limit n : ℕ} (answers log m : List ℕ) (e : n ≡ refusal limit (checked (c .highest) (length m) (c .words))) where
   pub refused-transacts : {p q : Progress} → (n ≡ 0 → ⊥) → p ≡ begun → q ≡ withNumber n p → Transacts c limit answers log m q log m
@@ -66,31 +60,17 @@ module _ (c : Chain) {limit n : ℕ} (answers log m : List ℕ) (e : n ≡ refus
   runs-transacts z b d =
       record { state = (rw b at (d .state)) ∙ rw (← e) (sym (called-runs (chainSteps (c .rate) (c .qpi) (chainOf (checked (c .highest) (length m) (c .words)))) limit answers log m z)) }
 
--- what is not refused at one limit is not refused at another from 1 up, and no refusal is 2
-taken-again : (limit limit' : ℕ) (c : Checked) → 0 < limit' → refusal limit c ≡ 0 → refusal limit' c ≡ 0
-unfolding refusal
-taken-again limit limit' c some z = rw (ne-eqb limit' 0 (λ e. omega (arith, e))) (by (eqb limit 0) z)
-  where
-    by : (b : Bool) → cond b 7 (faultNumber c) ≡ 0 → faultNumber c ≡ 0
-    by true h = absurd (omega (arith, h))
-    by false h = h
-
-never-two : (limit highest memory : ℕ) (ws : List ℕ) → refusal limit (checked highest memory ws) ≡ 2 → ⊥
-unfolding refusal
-never-two limit highest memory ws h = by (eqb limit 0) h
-  where
-    by : (b : Bool) → cond b 7 (faultNumber (checked highest memory ws)) ≡ 2 → ⊥
-    by true h = omega (arith, h)
-    by false h =
-        let z = found-not (checked highest memory ws) 2 (fault-numbers highest memory ws) (omega arith) h .0 in
-        omega (arith, z)
+never-two : (highest memory : ℕ) (ws : List ℕ) → faultNumber (checked highest memory ws) ≡ 2 → ⊥
+never-two highest memory ws h =
+    let z = found-not (checked highest memory ws) 2 (fault-numbers highest memory ws) (omega arith) h .0 in
+    omega (arith, z)
 
 pub chain-again : ChainAgain
-unfolding outcome
-chain-again c limit limit' answers more log m some =
+unfolding outcome refusal
+chain-again c limit limit' answers more log m =
     let found = checked (c .highest) (length m) (c .words) in
-    another-limit-called (λ l. refusal l found) (chainSteps (c .rate) (c .qpi) (chainOf found)) limit limit' answers more log m
-    (taken-again limit limit' found some) (never-two limit (c .highest) (length m) (c .words)) some
+    another-limit-first (faultNumber found) (chainSteps (c .rate) (c .qpi) (chainOf found)) limit limit' answers more log m
+    (never-two (c .highest) (length m) (c .words))
 
 pub chain-refused : ChainRefused
 unfolding outcome

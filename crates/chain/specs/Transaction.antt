@@ -1,11 +1,10 @@
 -- What a transaction, or a sheet's chain, gives its user for every input (document 01, "Transaction").
 use mathlib.Core.Path.{_≡_}
-use mathlib.Core.Bool.{Bool, false, cond}
+use mathlib.Core.Bool.{Bool, false}
 use mathlib.Core.List.{List}
 use Prim.Native.Nat.{ℕ}
-use lib.Dec.{eqb}
 use lib.ListN.{length}
-use Rattle.model.specs.State.{State, called}
+use Rattle.model.specs.State.{State, limitFirst, called}
 use Rattle.access.specs.declared.progress.Progress.{Progress}
 use Rattle.access.specs.Of.{stateOf}
 use Rattle.records.specs.Check.{Checked, checked, chainOf}
@@ -17,7 +16,7 @@ faultNumber (Checked.chain rs) = 0
 
 -- 7, then the first fault along the chain
 unfoldable pub refusal : ℕ → Checked → ℕ
-refusal limit c = cond (eqb limit 0) 7 (faultNumber c)
+refusal limit c = limitFirst limit (faultNumber c)
 
 -- a chain on a bus: its rate, whether the chip has QPI, the highest kind that is taken, and the words of the records
 pub record Chain : Type 0 where

@@ -1,14 +1,15 @@
 -- A call that may be refused, and demand 3 for it.
-use mathlib.Core.Path.{_≡_, refl, ap}
-use mathlib.Core.Bool.{Bool, true, false}
+use mathlib.Core.Path.{_≡_, refl, ap, _∙_}
+use mathlib.Core.Bool.{Bool, true, false, cond}
 use mathlib.Core.List.{List, _++_}
 use mathlib.Core.Logic.{⊎-elim}
 use Prim.Native.Nat.{ℕ, _<_}
+use native.Mathlib.Omega.{arith}
 use lib.Dec.{eqb}
 use borrow.Author.Tests.{ne-eqb, eqb-true, eqb-false}
 use Rattle.model.specs.Steps.{Steps}
-use Rattle.model.specs.State.{begun, withNumber, advance, called}
-use Rattle.model.specs.Limit.{Ended, AgainCall, AnotherLimitCalled}
+use Rattle.model.specs.State.{begun, withNumber, advance, limitFirst, called}
+use Rattle.model.specs.Limit.{Ended, AgainCall, AnotherLimitCalled, AnotherLimitFirst}
 use Rattle.model.proofs.Advance.{another-limit-call}
 
 module _ {refused : ℕ} (s : Steps) (limit : ℕ) (answers log m : List ℕ) where
@@ -33,3 +34,28 @@ another-limit-called refusedAt s l l' ws more log m on two some x = by (eqb (ref
         let q : called (refusedAt l) s l ws log m .number ≡ refusedAt l = ap (λ st. st .number) (called-refused s l ws log m i) in
         ⊎-elim {C = AgainCall l' (called (refusedAt l) s l ws log m) (called (refusedAt l') s l' (ws ++ more) log m)}
         (λ h. absurd (i h)) (λ h. absurd (two h)) (rw q at x)
+
+-- What is not refused has a limit, and nothing else refuses it; what has a limit is refused by the rest alone.
+pub limit-accepted : (limit other : ℕ) → limitFirst limit other ≡ 0 → (0 < limit) × (other ≡ 0)
+limit-accepted limit other z = by (eqb limit 0) refl z
+  where
+    by : (b : Bool) → eqb limit 0 ≡ b → cond b 7 other ≡ 0 → (0 < limit) × (other ≡ 0)
+    by true q h = absurd (omega (arith, h))
+    by false q h =
+        let i : limit ≡ 0 → ⊥ = eqb-false _ _ q in
+        (omega arith, h)
+
+pub limit-passed : (limit other : ℕ) → (limit ≡ 0 → ⊥) → limitFirst limit other ≡ other
+limit-passed limit other i = rw (ne-eqb limit 0 i) refl
+
+limit-never : (limit other n : ℕ) → n < 7 → (other ≡ n → ⊥) → limitFirst limit other ≡ n → ⊥
+limit-never limit other n l i h = by (eqb limit 0) h
+  where
+    by : (b : Bool) → cond b 7 other ≡ n → ⊥
+    by true h = omega (arith, h, l)
+    by false h = i h
+
+pub another-limit-first : AnotherLimitFirst
+another-limit-first other s l l' ws more log m two some =
+    another-limit-called (λ limit. limitFirst limit other) s l l' ws more log m
+    (λ z. limit-passed l' other (λ e. omega (arith, e)) ∙ limit-accepted l other z .1) (limit-never l other 2 (omega arith) two) some

@@ -7,7 +7,7 @@ use Prim.Native.Nat.{ℕ, _<_}
 use Rattle.model.specs.Tally.{longestOf}
 use Rattle.model.specs.Steps.{Steps}
 use Rattle.model.specs.Run.{Outcome, run}
-use Rattle.model.specs.State.{State, begun, advance, called}
+use Rattle.model.specs.State.{State, begun, advance, limitFirst, called}
 
 -- done or unsupported
 abbrev pub Ended : ℕ → Type 0
@@ -50,3 +50,10 @@ AnotherLimitCalled =
     → (refusedAt limit ≡ 0 → refusedAt limit' ≡ 0) → (refusedAt limit ≡ 2 → ⊥) → 0 < limit'
     → Ended (called (refusedAt limit) s limit answers log m .number)
     → AgainCall limit' (called (refusedAt limit) s limit answers log m) (called (refusedAt limit') s limit' (answers ++ more) log m)
+
+-- The same of a call that is refused by 7 at limit 0, else by a number that is not 2 and that the limit does not matter to.
+abbrev pub AnotherLimitFirst : Type 0
+AnotherLimitFirst =
+    (other : ℕ) (s : Steps) (limit limit' : ℕ) (answers more log m : List ℕ) → (other ≡ 2 → ⊥) → 0 < limit'
+    → Ended (called (limitFirst limit other) s limit answers log m .number)
+    → AgainCall limit' (called (limitFirst limit other) s limit answers log m) (called (limitFirst limit' other) s limit' (answers ++ more) log m)

@@ -57,6 +57,10 @@ onward f answers st =
 unfoldable pub advance : Steps → ℕ → List ℕ → State → State
 advance s limit answers st = onward (run s limit false) answers st
 
+-- 7 for limit 0, else what else is refused
+abbrev pub limitFirst : ℕ → ℕ → ℕ
+limitFirst limit other = cond (eqb limit 0) 7 other
+
 -- A call as its user sees it: a refusal leaves counts of 0, and the log and the memory as they were; else the steps run from no entry on.
 unfoldable pub called : ℕ → Steps → ℕ → List ℕ → List ℕ → List ℕ → State
 called refused s limit answers log m =

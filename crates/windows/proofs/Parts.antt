@@ -1,5 +1,6 @@
 -- Steps on a window, as steps on the whole memory.
 use mathlib.Core.Path.{_≡_, refl, sym, _∙_}
+use mathlib.Core.Bool.{Bool, true, false}
 use mathlib.Core.List.{List, _++_}
 use Prim.Native.Nat.{ℕ, _+_, _^_, _≤_, _<_}
 use native.Mathlib.Omega.{arith}
@@ -8,6 +9,7 @@ use lib.ListN.{length, take, drop, length-take, length-drop}
 use Rattle.model.specs.Steps.{Steps}
 use Rattle.model.specs.Steps.Steps.{look}
 use Rattle.model.specs.Frame.{Inside}
+use Rattle.model.specs.Frame.Inside.{ends}
 use Rattle.model.proofs.Frame.{then-inside, finally-inside}
 use Rattle.model.proofs.Next.{look-next}
 use Rattle.access.specs.declared.progress.Progress.{Progress}
@@ -16,7 +18,9 @@ use Rattle.access.specs.Does.{Runs}
 use Rattle.access.proofs.Sequence.{runs-part}
 use Rattle.qspi.specs.Phases.{rxPhase}
 use Rattle.qspi.proofs.Windows.{change-inside, wait-inside, tx-inside, rx-inside}
-use Rattle.mode.specs.Mode.{lines, modeChanges, workMode}
+use Rattle.config.specs.declared.config.WorkMode.{WorkMode}
+use Rattle.config.specs.declared.config.WorkMode.the-variants.{Standard, ThreeWire, Dual, DualIO, Quad, QuadIO, Qpi}
+use Rattle.mode.specs.Mode.{lines, qpiMode, modeChanges, workMode}
 use Rattle.transfer.specs.Transfer.{inPlaceSteps}
 use Rattle.transfer.proofs.Parts.{in-place-inside}
 use Rattle.quad.specs.Quad.{quadMode, standardMode, quadStart, quadSteps}
@@ -41,19 +45,32 @@ pub looked : (k : List ℕ → Steps) {limit : ℕ} {answers : List ℕ} {p r : 
 looked k {limit} {answers} {p} {log = log} {m = m} d =
     record { sound = d .sound; state = d .state ∙ look-next k limit answers (stateOf p log m) }
 
-quad-mode-inside : {at n : ℕ} → Inside at n quadMode quadMode
-unfolding quadMode workMode modeChanges lines
-quad-mode-inside = then-inside (wait-inside _) (then-inside (change-inside _ _) (change-inside _ _))
+-- a mode touches no memory
+module _ {at n : ℕ} where
+  lines-inside : (quad dual three : ℕ) → Inside at n (lines quad dual three) (lines quad dual three)
+  unfolding lines
+  lines-inside quad dual three = then-inside (change-inside _ _) (change-inside _ _)
 
-standard-inside : {at n : ℕ} → Inside at n standardMode standardMode
-unfolding standardMode workMode modeChanges lines
-standard-inside = then-inside (wait-inside _) (then-inside (change-inside _ _) (change-inside _ _))
+  changes-inside : (qpi : Bool) (mode : WorkMode) → Inside at n (modeChanges qpi mode) (modeChanges qpi mode)
+  unfolding modeChanges qpiMode
+  changes-inside qpi Standard = lines-inside _ _ _
+  changes-inside qpi ThreeWire = lines-inside _ _ _
+  changes-inside qpi Dual = lines-inside _ _ _
+  changes-inside qpi DualIO = lines-inside _ _ _
+  changes-inside qpi Quad = lines-inside _ _ _
+  changes-inside qpi QuadIO = lines-inside _ _ _
+  changes-inside true Qpi = change-inside _ _
+  changes-inside false Qpi = ends _
+
+  mode-inside : (qpi : Bool) (mode : WorkMode) → Inside at n (workMode qpi mode) (workMode qpi mode)
+  unfolding workMode
+  mode-inside qpi mode = then-inside (wait-inside _) (changes-inside qpi mode)
 
 quad-inside : (at n : ℕ) (bytes : List ℕ) → Inside at n (quadSteps bytes (rxPhase at n)) (quadSteps bytes (rxPhase 0 n))
-unfolding quadStart quadSteps
+unfolding quadMode standardMode quadStart quadSteps
 quad-inside at n bytes =
-    then-inside (then-inside (tx-inside _ bytes) quad-mode-inside)
-    (finally-inside (rw add-zero at (rx-inside {at = at} {n = n} 0 n (omega arith))) standard-inside)
+    then-inside (then-inside (tx-inside _ bytes) (mode-inside false Quad))
+    (finally-inside (rw add-zero at (rx-inside {at = at} {n = n} 0 n (omega arith))) (mode-inside false Standard))
 
 -- The same for a window that was lent: what was done on it was done on the whole.
 module _ (at len : ℕ) {limit : ℕ} {answers : List ℕ} {p r : Progress} {log log' m part' : List ℕ} (h : at + len ≤ length m) where
