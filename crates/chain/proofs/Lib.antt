@@ -1,3 +1,5 @@
 pub mod ByKind
 pub mod Running
 pub mod Entry
+pub mod Polls
+pub mod Instances

@@ -1,9 +1,10 @@
 -- Demand 3 for a chain as one run, and what a refusal leaves.
 use mathlib.Core.Path.{_≡_}
-use mathlib.Core.List.{List, _++_}
+use mathlib.Core.Bool.{false}
+use mathlib.Core.List.{List, [], _∷_, _++_}
 use Prim.Native.Nat.{ℕ, _<_}
-use lib.ListN.{length}
-use Rattle.model.specs.State.{begun, withNumber}
+use lib.ListN.{length, replicate}
+use Rattle.model.specs.State.{State, begun, withNumber}
 use Rattle.model.specs.Limit.{Ended, AgainCall}
 use Rattle.records.specs.Check.{checked}
 use Rattle.chain.specs.Transaction.{Chain, refusal, outcome}
@@ -18,3 +19,14 @@ abbrev pub ChainRefused : Type 0
 ChainRefused =
     (c : Chain) (limit : ℕ) (answers log m : List ℕ) → let n = refusal limit (checked (c .highest) (length m) (c .words)) in
     (n ≡ 0 → ⊥) → outcome c limit answers log m ≡ withNumber n (begun log m)
+
+-- a chain of one flush, whose first poll is unready
+abbrev pub flushed : ℕ → State
+flushed limit =
+    outcome (record { rate = 0; qpi = false; highest = 9; words = 6 ∷ 0 ∷ 0 ∷ 0 ∷ 0 ∷ 0 ∷ 0 ∷ 0 ∷ [] }) limit (0x80000000 ∷ 0 ∷ []) (replicate 4 7) []
+
+-- What the laws ask for can be had: a chain that ends in 0 after an unready poll, and one that is refused.
+pub record HypothesesMet : Type 0 where
+  pub ended : Ended (flushed 2 .number)
+  pub unready : 0 < flushed 2 .tally .longest
+  pub refused : refusal 0 (checked 9 0 []) ≡ 0 → ⊥

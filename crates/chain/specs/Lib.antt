@@ -1,3 +1,4 @@
 pub mod Chain
 pub mod Transaction
 pub mod Laws
+pub mod Polls
