@@ -5,4 +5,3 @@ pub mod Skip
 pub mod Answer
 pub mod Dummies
 pub mod Laws
-pub mod Settled

@@ -1,5 +1,5 @@
 -- A call that may be refused, and demand 3 for it.
-use mathlib.Core.Path.{_≡_, refl, ap, _∙_}
+use mathlib.Core.Path.{_≡_, refl, sym, ap, _∙_}
 use mathlib.Core.Bool.{Bool, true, false, cond}
 use mathlib.Core.List.{List, _++_}
 use mathlib.Core.Logic.{⊎-elim}
@@ -8,9 +8,12 @@ use native.Mathlib.Omega.{arith}
 use lib.Dec.{eqb}
 use borrow.Author.Tests.{ne-eqb, eqb-true, eqb-false}
 use Rattle.model.specs.Steps.{Steps}
-use Rattle.model.specs.State.{begun, withNumber, advance, limitFirst, called}
+use Rattle.model.specs.State.{begun, withNumber, roomOf, ran, advance, limitFirst, called}
 use Rattle.model.specs.Limit.{Ended, AgainCall, AnotherLimitCalled, AnotherLimitFirst}
-use Rattle.model.proofs.Advance.{another-limit-call}
+use Rattle.model.specs.Run.{run}
+use Rattle.model.specs.Ends.{Met}
+use Rattle.model.proofs.Advance.{starts, another-limit-call}
+use Rattle.model.proofs.Ends.{every-run-ends}
 
 module _ {refused : ℕ} (s : Steps) (limit : ℕ) (answers log m : List ℕ) where
   pub called-refused : (refused ≡ 0 → ⊥) → called refused s limit answers log m ≡ withNumber refused (begun log m)
@@ -20,6 +23,21 @@ module _ {refused : ℕ} (s : Steps) (limit : ℕ) (answers log m : List ℕ) wh
   pub called-runs : refused ≡ 0 → called refused s limit answers log m ≡ advance s limit answers (begun log m)
   unfolding called
   called-runs z = rw z refl
+
+-- A number that no steps end in is given only as the refusal.
+runs-met : {refused : ℕ} (s : Steps) (limit : ℕ) (answers log m : List ℕ) → refused ≡ 0 → Met (called refused s limit answers log m .number)
+unfolding advance ran
+runs-met s limit answers log m z =
+    rw (called-runs s limit answers log m z, starts (run s limit false) answers (begun log m) refl)
+    (every-run-ends s limit (roomOf (begun log m)) answers m .number)
+
+pub called-never : (n refused : ℕ) (s : Steps) (limit : ℕ) (answers log m : List ℕ) → (Met n → ⊥) → (refused ≡ n → ⊥)
+    → called refused s limit answers log m .number ≡ n → ⊥
+called-never n refused s limit answers log m never i = by (eqb refused 0) refl
+  where
+    by : (b : Bool) → eqb refused 0 ≡ b → called refused s limit answers log m .number ≡ n → ⊥
+    by true e h = never (rw h at (runs-met {refused = refused} s limit answers log m (eqb-true _ _ e)))
+    by false e h = i (sym (ap (λ st. st .number) (called-refused s limit answers log m (eqb-false refused 0 e))) ∙ h)
 
 pub another-limit-called : AnotherLimitCalled
 another-limit-called refusedAt s l l' ws more log m on two some x = by (eqb (refusedAt l) 0) refl
@@ -48,7 +66,7 @@ limit-accepted limit other z = by (eqb limit 0) refl z
 pub limit-passed : (limit other : ℕ) → (limit ≡ 0 → ⊥) → limitFirst limit other ≡ other
 limit-passed limit other i = rw (ne-eqb limit 0 i) refl
 
-limit-never : (limit other n : ℕ) → n < 7 → (other ≡ n → ⊥) → limitFirst limit other ≡ n → ⊥
+pub limit-never : (limit other n : ℕ) → n < 7 → (other ≡ n → ⊥) → limitFirst limit other ≡ n → ⊥
 limit-never limit other n l i h = by (eqb limit 0) h
   where
     by : (b : Bool) → cond b 7 other ≡ n → ⊥

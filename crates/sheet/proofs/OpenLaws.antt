@@ -1,16 +1,16 @@
--- What opening gives: refused where a test fails, else the header; and what a header says of the bytes.
-use Prim.Native.Nat.{ℕ, _+_, _-_, _*_, _≤_, _<_}
-use mathlib.Core.Path.{_≡_, refl, sym, ap, subst⁻¹}
+-- What opening gives: refused where a test fails, else the header; and the words that fill a buffer.
+use Prim.Native.Nat.{ℕ, _+_, _*_, _≤_, _<_}
+use mathlib.Core.Path.{_≡_, refl}
 use mathlib.Core.Bool.{Bool, true, false}
 use mathlib.Core.List.{List, [], _∷_, _++_, append-assoc, append-nil}
 use native.Mathlib.Numerals.{add-one}
 use native.Mathlib.Omega.{arith}
 use native.Mathlib.Nat.{le-antisymm}
-use lib.ListN.{length, take, drop, set, drop-of-length-le, length-drop}
-use lib.Seq.{drop-cons, set-at, length-take-le}
+use lib.ListN.{length, drop, set, drop-of-length-le}
+use lib.Seq.{drop-cons, set-at}
 use Rattle.sheet.specs.Words.{wordAt, words}
-use Rattle.sheet.specs.Sheet.{refused, accepted, sheetOf, judged, parse, sheet, recordCount, answersFrom}
-use Rattle.sheet.specs.Open.{headerOf, answered, opened, Loaded}
+use Rattle.sheet.specs.Sheet.{refused, accepted, sheetOf, judged, parse}
+use Rattle.sheet.specs.Open.{headerOf, answered, opened}
 use Rattle.sheet.specs.declared.Header.{Header}
 use Rattle.sheet.specs.declared.Opened.{Opened}
 use Rattle.sheet.proofs.SheetLaws.{Accepted, accepted-is, is-accepted}
@@ -50,35 +50,7 @@ opened-is bs h e = go (accepted bs) refl e
     go true q p = (accepted-is bs q, cc)
     go false q p = let z : _≡_ {A = ℕ} 0 1 = cc in absurd (omega arith)
 
--- the numbers of an accepted header
-pub sized : (bs : List ℕ) (h : Header) → opened bs ≡ Opened.Accepted h → (20 + 32 * h .records + 4 * h .answers ≤ length bs) × (length bs ≤ 65536)
-sized bs h e =
-    let p = opened-is bs h e in
-    subst⁻¹ (λ (g : Header). (20 + 32 * g .records + 4 * g .answers ≤ length bs) × (length bs ≤ 65536)) (p .1) (p .0 .enough, p .0 .most)
-
-module _ (bs rs ws rs′ ws′ : List ℕ) where
-  abbrev pub Filled : Header → Type 0
-  Filled h =
-      8 * h .records ≤ length rs
-      → h .answers ≤ length ws
-      → rs′ ≡ words (length (take (8 * h .records) rs)) (drop 20 bs)
-      → ws′ ≡ words (length (take (h .answers) ws)) (drop (20 + 4 * (8 * h .records)) bs)
-      → Loaded bs (Opened.Accepted h) rs (rs′ ++ drop (8 * h .records) rs) ws (ws′ ++ drop (h .answers) ws)
-
-  at-header : Accepted bs → Filled (headerOf bs)
-  at-header ok fr fa er ea =
-      let p : parse bs ≡ sheet (sheetOf bs) = unfold parse in ap (λ (b : Bool). judged b (sheetOf bs)) (is-accepted bs ok) in
-      let e : 20 + 4 * (8 * recordCount bs) ≡ answersFrom (recordCount bs) = omega arith in
-      record {
-        header = accept bs ok;
-        records = rw (p, er, length-take-le _ rs fr, words-length);
-        answers = rw (p, ea, length-take-le _ ws fa, e, words-length);
-      }
-
-  pub loaded : (h : Header) → opened bs ≡ Opened.Accepted h → Filled h
-  loaded h e = let p = opened-is bs h e in subst⁻¹ Filled (p .1) (at-header (p .0))
-
--- refused bytes load nothing
+-- what a refusal says
 pub refused-is : (bs : List ℕ) → opened bs ≡ Opened.Refused → parse bs ≡ refused
 unfolding opened parse
 refused-is bs e = go (accepted bs) refl e
@@ -86,30 +58,3 @@ refused-is bs e = go (accepted bs) refl e
     go : (b : Bool) → accepted bs ≡ b → answered b (headerOf bs) ≡ Opened.Refused → judged (accepted bs) (sheetOf bs) ≡ refused
     go true q p = let z : _≡_ {A = ℕ} 0 1 = cc in absurd (omega arith)
     go false q p = rw q
-
-pub loaded-none : (bs rs ws : List ℕ) → opened bs ≡ Opened.Refused → Loaded bs Opened.Refused rs rs ws ws
-loaded-none bs rs ws e =
-    let p = refused-is bs e in record { header = sym e; records = rw p; answers = rw p }
-
--- what an accepted header says of the sheet
-pub record Headed (bs : List ℕ) (h : Header) : Type 0 where
-  pub parsed : parse bs ≡ sheet (sheetOf bs)
-  pub limit : h .limit ≡ sheetOf bs .limit
-  pub records : length (sheetOf bs .records) ≡ 8 * h .records
-  pub most : 8 * h .records ≤ 16384
-  pub memory : h .memory ≤ length bs
-  pub rest : length (sheetOf bs .memory) ≡ length bs - h .memory
-
-pub headed : (bs : List ℕ) (h : Header) → opened bs ≡ Opened.Accepted h → Headed bs h
-headed bs h e = let p = opened-is bs h e in subst⁻¹ (Headed bs) (p .1) (heads (p .0))
-  where
-    heads : Accepted bs → Headed bs (headerOf bs)
-    heads ok =
-        record {
-          parsed = unfold parse in ap (λ (b : Bool). judged b (sheetOf bs)) (is-accepted bs ok);
-          limit = refl;
-          records = words-length _ _;
-          most = omega arith;
-          memory = ok .enough;
-          rest = length-drop _ bs;
-        }

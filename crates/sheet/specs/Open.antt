@@ -1,11 +1,9 @@
--- What opening a sheet's bytes gives the code: the header, or a refusal; and what loading its words leaves in the buffers lent for them.
+-- What opening a sheet's bytes gives the code: the header, or a refusal.
 use Prim.Native.Nat.{ℕ}
 use mathlib.Core.Bool.{Bool, true, false}
-use mathlib.Core.List.{List, [], _++_}
-use mathlib.Core.Path.{_≡_}
-use lib.ListN.{length, drop}
+use mathlib.Core.List.{List}
 use Rattle.sheet.specs.Words.{wordAt}
-use Rattle.sheet.specs.Sheet.{Parsed, refused, sheet, accepted, parse, recordCount, answerCount, memoryFrom}
+use Rattle.sheet.specs.Sheet.{accepted, recordCount, answerCount, memoryFrom}
 use Rattle.sheet.specs.declared.Header.{Header}
 use Rattle.sheet.specs.declared.Opened.{Opened}
 
@@ -26,21 +24,3 @@ answered false h = Opened.Refused
 
 unfoldable pub opened : List ℕ → Opened
 opened bs = answered (accepted bs) (headerOf bs)
-
-abbrev pub recordsOf : Parsed → List ℕ
-recordsOf refused = []
-recordsOf (sheet s) = s .records
-
-abbrev pub answersOf : Parsed → List ℕ
-answersOf refused = []
-answersOf (sheet s) = s .answers
-
--- a buffer with xs at its front and the rest as it was
-abbrev pub over : List ℕ → List ℕ → List ℕ
-over xs old = xs ++ drop (length xs) old
-
--- bs opened as r, with the records and the answers at the front of the two buffers
-pub record Loaded (bs : List ℕ) (r : Opened) (rs rs′ ws ws′ : List ℕ) : Type 0 where
-  pub header : r ≡ opened bs
-  pub records : rs′ ≡ over (recordsOf (parse bs)) rs
-  pub answers : ws′ ≡ over (answersOf (parse bs)) ws

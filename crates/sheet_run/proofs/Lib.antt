@@ -1,3 +1,5 @@
 pub mod Sheets
 pub mod Entries
 pub mod Again
+pub mod Refused
+pub mod Instances

@@ -1,0 +1,67 @@
+-- A refused sheet, and the number that none gives.
+use mathlib.Core.Path.{_≡_, refl, sym, ap, _∙_}
+use mathlib.Core.List.{List, _++_}
+use mathlib.Core.Logic.{⊎-elim}
+use Prim.Native.Nat.{ℕ, _-_, _≤_}
+use native.Mathlib.Omega.{arith}
+use lib.ListN.{length, take, drop, length-drop, take-append-drop}
+use Rattle.model.specs.State.{begun, withNumber, withMemory}
+use Rattle.model.specs.Ends.{Met}
+use Rattle.model.proofs.Called.{limit-never, called-never}
+use Rattle.records.specs.Check.{Checked, checked, chainOf}
+use Rattle.records.specs.Laws.{EachFault}
+use Rattle.records.proofs.Lengths.{never-6}
+use Rattle.chain.specs.Chain.{chainSteps}
+use Rattle.chain.specs.Transaction.{faultNumber, refusal, outcome}
+use Rattle.chain.proofs.Entry.{chain-refused}
+use Rattle.sheet.specs.Sheet.{Sheet, Parsed, refused, sheet, parse, sheetOf, recordCount, answerCount, memoryFrom}
+use Rattle.sheet.proofs.SheetLaws.{accepted-is, parsed}
+use Rattle.sheet_run.specs.Run.{chainIn, sheetOutcome, bytesWith, sheetState}
+use Rattle.sheet_run.specs.Laws.{sheetRefusal, SheetRefused, SheetNever6}
+
+-- what stands before the memory of a sheet, and the memory, are its bytes
+rejoined : (bs : List ℕ) (s : Sheet) → parse bs ≡ sheet s → take (length bs - length (s .memory)) bs ++ s .memory ≡ bs
+rejoined bs s e =
+    let p = parsed bs s e in
+    let ok = accepted-is bs (p .0) in
+    let k = memoryFrom (recordCount bs) (answerCount bs) in
+    let fits : k ≤ length bs = ok .enough in
+    let l : length (drop k bs) ≡ length bs - k = length-drop k bs in
+    let back : length bs - length (drop k bs) ≡ k = omega arith in
+    rw (← (p .1), back) (take-append-drop k bs)
+
+pub sheet-refused-law : SheetRefused
+unfolding sheetState sheetOutcome sheetRefusal
+sheet-refused-law bs log = by (parse bs) refl
+  where
+    by : (p : Parsed) → parse bs ≡ p → (sheetRefusal p ≡ 0 → ⊥)
+        → withMemory (bytesWith bs p (sheetOutcome p log .memory)) (sheetOutcome p log) ≡ withNumber (sheetRefusal p) (begun log bs)
+    by refused e i = refl
+    by (sheet s) e i = rw (chain-refused (chainIn s) (s .limit) (s .answers) log (s .memory) i, rejoined bs s e) refl
+
+not-met : Met 6 → ⊥
+not-met h =
+    ⊎-elim (λ e. omega (arith, e)) (⊎-elim (λ e. omega (arith, e)) (⊎-elim (λ e. omega (arith, e)) (⊎-elim (λ e. omega (arith, e)) (λ e. omega (arith, e))))) h
+
+fault-never : (c : Checked) → EachFault (λ n. n ≡ 6 → ⊥) c → faultNumber c ≡ 6 → ⊥
+fault-never (Checked.fault n i) f e = f e
+fault-never (Checked.chain rs) f e = omega (arith, e)
+
+memory-short : (bs : List ℕ) (s : Sheet) → parse bs ≡ sheet s → length (s .memory) ≤ 0xFFFFFF
+memory-short bs s e =
+    let p = parsed bs s e in
+    let most : length bs ≤ 65536 = accepted-is bs (p .0) .most in
+    let k = memoryFrom (recordCount bs) (answerCount bs) in
+    let l : length (drop k bs) ≡ length bs - k = length-drop k bs in
+    rw (← (p .1)) (omega arith)
+
+pub sheet-never-6 : SheetNever6
+unfolding sheetState sheetOutcome outcome refusal
+sheet-never-6 bs log = by (parse bs) refl
+  where
+    by : (p : Parsed) → parse bs ≡ p → sheetOutcome p log .number ≡ 6 → ⊥
+    by refused e = λ h. omega (arith, h)
+    by (sheet s) e =
+        let found = checked 9 (length (s .memory)) (s .records) in
+        called-never 6 (refusal (s .limit) found) (chainSteps (s .rate) (chainIn s .qpi) (chainOf found)) (s .limit) (s .answers) log (s .memory) not-met
+        (limit-never (s .limit) (faultNumber found) 6 (omega arith) (fault-never found (never-6 (length (s .memory)) (memory-short bs s e) 9 (s .records))))
