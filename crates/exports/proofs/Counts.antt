@@ -13,6 +13,8 @@ use Rattle.access.specs.Of.{begun, withNumber}
 use Rattle.exports.specs.Calls.{Told, Gives, GivesOn}
 use Rattle.chain.specs.Transaction.{Chain, Transacts}
 use Rattle.exports.specs.Transactions.{GivesChain}
+use Rattle.sheet_run.specs.Run.{RunsSheet}
+use Rattle.exports.specs.Sheets.{GivesSheet}
 use Rattle.exports.specs.Modes.{noMode, CalledMode, GivesMode}
 
 module _ {call : Call} {limit : ℕ} {answers log log' : List ℕ} {p : Progress} {number entries taken polls longest : ℕ}
@@ -43,3 +45,8 @@ pub chain-gives : {c : Chain} {limit : ℕ} {answers log m log' m' : List ℕ} {
     → Told p number entries taken polls longest → Transacts c limit answers log m p log' m'
     → GivesChain c limit answers log m log' m' number entries taken polls longest
 chain-gives t d = record { state = rw (t .numbered, t .made, t .answered, t .polled, t .waited) (d .state) }
+
+pub sheet-gives : {bs log log' bs' : List ℕ} {p : Progress} {number entries taken polls longest : ℕ}
+    → Told p number entries taken polls longest → RunsSheet bs log p log' bs'
+    → GivesSheet bs log log' bs' number entries taken polls longest
+sheet-gives t d = record { state = rw (t .numbered, t .made, t .answered, t .polled, t .waited) (d .state) }

@@ -4,3 +4,4 @@ pub mod Modes
 pub mod Opening
 pub mod Clocks
 pub mod Transactions
+pub mod Sheets

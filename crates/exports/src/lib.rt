@@ -5,6 +5,7 @@ ghost use Rattle.exports.specs.Limit.{defaultLimit};
 pub mod calls;
 pub mod clocks;
 pub mod open;
+pub mod sheet;
 pub mod transaction;
 
 // The limit of unready polls in one wait that the Rust has.
