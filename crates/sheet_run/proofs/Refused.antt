@@ -30,9 +30,9 @@ rejoined bs s e =
     let back : length bs - length (drop k bs) ≡ k = omega arith in
     rw (← (p .1), back) (take-append-drop k bs)
 
-pub sheet-refused-law : SheetRefused
+pub refused-leaves : SheetRefused
 unfolding sheetState sheetOutcome sheetRefusal
-sheet-refused-law bs log = by (parse bs) refl
+refused-leaves bs log = by (parse bs) refl
   where
     by : (p : Parsed) → parse bs ≡ p → (sheetRefusal p ≡ 0 → ⊥)
         → withMemory (bytesWith bs p (sheetOutcome p log .memory)) (sheetOutcome p log) ≡ withNumber (sheetRefusal p) (begun log bs)
