@@ -1,5 +1,6 @@
 -- The ways in which one access ends: skipped, without room, without an answer, or entered.
-use mathlib.Core.Path.{_≡_, refl, sym, _∙_}
+use mathlib.Core.Path.{_≡_, refl, sym, ap, _∙_}
+use mathlib.Core.Bool.{true, false, not}
 use mathlib.Core.List.{List}
 use Prim.Native.Nat.{ℕ, _+_, _*_, _/_, _≤_, _<_}
 use native.Mathlib.Omega.{arith}
@@ -16,6 +17,9 @@ use Rattle.model.specs.State.{advance}
 use Rattle.model.proofs.Trace.{plus-none}
 use Rattle.model.proofs.Advance.{skipped, ended, onward-end}
 use Rattle.model.proofs.Entry.{act-full, act-noted, answered-full, answered-dry, answered-noted}
+use Rattle.answers.specs.declared.Taken.{Taken}
+use Rattle.answers.specs.Taken.{takenAt}
+use Rattle.answers.proofs.Laws.{found, not-found}
 use Rattle.access.specs.declared.progress.Progress.{Progress}
 use Rattle.access.specs.Of.{stateOf, withNumber}
 use Rattle.access.specs.Does.{Sound, Acts, Asks}
@@ -61,28 +65,30 @@ module _ (p : Progress) (log : List ℕ) (few : Sound p) where
           rises = λ y. absurd (omega (arith, y));
         }
 
-    pub ask-eleven : p .number ≡ 0 → p .entries < length log / 2 → length answers ≤ p .taken → Asks q answers p log (withNumber 11 p) log 0
+    pub ask-eleven : {t : Taken} → p .number ≡ 0 → p .entries < length log / 2 → t ≡ takenAt answers (p .taken) → not (t .found) ≡ true
+        → Asks q answers p log (withNumber 11 p) log 0
     unfolding advance run answerOf receive
-    ask-eleven z h d =
+    ask-eleven z h t f =
         record {
           sound = few;
-          state = λ l m. sym (answered-dry answers (stateOf p log m) z (heard q) (λ m' x r ws. stop 0 r ws m') (λ x. refl) h d);
+          state = λ l m. sym (answered-dry answers (stateOf p log m) z (heard q) (λ m' x r ws. stop 0 r ws m') (λ x. refl) h (not-found answers (p .taken) t f));
           says = λ y. absurd (omega (arith, y));
           none = λ y. refl;
           rises = λ y. absurd (omega (arith, y));
         }
 
-    pub ask-entered : (log' : List ℕ) {head w : ℕ} → p .number ≡ 0 → p .entries < length log / 2 → p .taken < length answers
-        → log' ≡ entry p log head w → head ≡ askHead q → w ≡ said q (getD answers (p .taken) 0)
-        → Asks q answers p log (further (p .taken + 1) p) log' w
+    pub ask-entered : (log' : List ℕ) {head w : ℕ} {t : Taken} → p .number ≡ 0 → p .entries < length log / 2 → t ≡ takenAt answers (p .taken)
+        → not (t .found) ≡ false → log' ≡ entry p log head w → head ≡ askHead q → w ≡ said q (t .word) → Asks q answers p log (further (t .at) p) log' w
     unfolding advance run answerOf receive tallyEvent headOf valueOf
-    ask-entered log' z h d e i v =
+    ask-entered log' z h t f e i v =
+        let g = found answers (p .taken) t f in
+        let v' = v ∙ ap (said q) (g .word) in
         record {
           sound = omega arith;
           state = λ l m.
-              sym (answered-noted answers (stateOf p log m) z (heard q) (λ m' x r ws. stop 0 r ws m') (λ x. refl) h d
-              ∙ onward-end answers _ ∙ rw (e, i, v) (simp plus-none));
-          says = λ _. v;
+              sym (answered-noted answers (stateOf p log m) z (heard q) (λ m' x r ws. stop 0 r ws m') (λ x. refl) h (g .left)
+              ∙ onward-end answers _ ∙ rw (e, i, v', g .next) (simp plus-none));
+          says = λ _. v';
           none = λ y. absurd (y z);
           rises = λ _. omega arith;
         }

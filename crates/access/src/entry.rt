@@ -127,24 +127,24 @@ pub fn query(progress: Progress, log: &mut [u32], answers: &[u32], access: Ask) 
             word: 0,
         };
     }
-    let taken = progress.taken;
-    if answers.len() <= taken {
+    let next = answers::read_next(answers, progress.taken);
+    if !next.found {
         return Answer {
             progress: progress.ended(number::ANSWERS),
             word: 0,
         };
     }
-    let word = access.said(answers[taken]);
+    let word = access.said(next.word);
     log_entry(log, entries, access.head(), word);
     let tally = progress.tally;
-    let next = Progress {
+    let after = Progress {
         number: progress.number,
         entries: entries + 1,
-        taken: taken + 1,
+        taken: next.at,
         tally,
     };
     Answer {
-        progress: next,
+        progress: after,
         word,
     }
 }

@@ -1,2 +1,3 @@
 pub mod Polling
 pub mod Sequence
+pub mod Passed

@@ -7,9 +7,11 @@ ghost use Rattle.model.specs.Steps.{waitFor};
 ghost use Rattle.access.specs.Of.{causeOf};
 ghost use Rattle.access.specs.Does.{Sound, Does};
 ghost use Rattle.waits.specs.Does.{Waits};
+ghost use Rattle.waits.specs.Lent.{tallied, Begins, Polls};
 use access::Ask;
 use access::Cause;
 use access::Progress;
+use access::Tally;
 use config::number;
 use registers::FifoStatus;
 use registers::TransferConfig;
@@ -65,8 +67,8 @@ pub struct Waited {
     pub count: u32,
 }
 
-// Polls until a word is ready; 1 at the unready poll number `limit`.
-pub fn wait(
+// Polls until a word is ready; 1 at the unready poll number `limit`. The tally goes through by value.
+fn poll_until_ready(
     limit: u32,
     progress: Progress,
     log: &mut [u32],
@@ -106,6 +108,130 @@ pub fn wait(
     Waited {
         progress: current,
         count,
+    }
+}
+
+// How far a call has come, but for its tally.
+pub struct Reached {
+    pub number: u32,
+    pub entries: usize,
+    pub taken: usize,
+}
+
+// The count that a wait ended with, and how far it came.
+pub struct Outcome {
+    pub reached: Reached,
+    pub count: u32,
+}
+
+// The same, with the tally after it.
+pub struct Tallied {
+    pub outcome: Outcome,
+    pub tally: Tally,
+}
+
+// A wait whose tally is given and returned by value.
+fn wait_by_value(
+    tally: Tally,
+    cause: Cause,
+    limit: u32,
+    reached: Reached,
+    log: &mut [u32],
+    answers: &[u32],
+) -> Tallied
+    requires { ⌜ Begins tally reached limit ⌝ }
+    ensures { λ r. ⌜ Polls (causeOf cause) limit (now (answers .entry)) tally reached (now (log .entry)) r (now (log .exit)) ⌝ }
+{
+    let progress = Progress {
+        number: reached.number,
+        entries: reached.entries,
+        taken: reached.taken,
+        tally,
+    };
+    let waited = poll_until_ready(limit, progress, log, answers, cause);
+    let after = waited.progress;
+    let counted = after.tally;
+    let reached = Reached {
+        number: after.number,
+        entries: after.entries,
+        taken: after.taken,
+    };
+    Tallied {
+        outcome: Outcome {
+            reached,
+            count: waited.count,
+        },
+        tally: counted,
+    }
+}
+
+// A wait whose tally is lent and changed in place: nothing else raises polls and longest.
+fn wait_tallied(
+    tally: &mut Tally,
+    cause: Cause,
+    limit: u32,
+    reached: Reached,
+    log: &mut [u32],
+    answers: &[u32],
+) -> Outcome
+    requires { ⌜ Begins (now tally) reached limit ⌝ }
+    ensures { λ r. ⌜ Polls (causeOf cause) limit (now (answers .entry)) (now (tally .entry)) reached (now (log .entry)) (tallied r (now (tally .exit))) (now (log .exit)) ⌝ }
+{
+    let after = wait_by_value(*tally, cause, limit, reached, log, answers);
+    *tally = after.tally;
+    after.outcome
+}
+
+// Lends the tally to its wait.
+fn wait_lending(
+    tally: Tally,
+    cause: Cause,
+    limit: u32,
+    reached: Reached,
+    log: &mut [u32],
+    answers: &[u32],
+) -> Tallied
+    requires { ⌜ Begins tally reached limit ⌝ }
+    ensures lending { λ r. ⌜ Polls (causeOf cause) limit (now (answers .entry)) tally reached (now (log .entry)) r (now (log .exit)) ⌝ }
+{
+    let mut lent = tally;
+    let outcome = wait_tallied(&mut lent, cause, limit, reached, log, answers);
+    Tallied {
+        outcome,
+        tally: lent,
+    }
+}
+
+// Polls until a word is ready; 1 at the unready poll number `limit`.
+pub fn wait(
+    limit: u32,
+    progress: Progress,
+    log: &mut [u32],
+    answers: &[u32],
+    cause: Cause,
+) -> Waited
+    requires { ⌜ Sound progress ⌝ }
+    requires { ⌜ 0 < limit ⌝ }
+    ensures { λ r. ⌜ Waits (causeOf cause) limit (now (answers .entry)) progress (now (log .entry)) (r .progress) (now (log .exit)) (r .count) ⌝ }
+{
+    let reached = Reached {
+        number: progress.number,
+        entries: progress.entries,
+        taken: progress.taken,
+    };
+    let before = progress.tally;
+    let tallied = wait_lending(before, cause, limit, reached, log, answers);
+    let tally = tallied.tally;
+    let outcome = tallied.outcome;
+    let after = outcome.reached;
+    Waited {
+        progress: Progress {
+            number: after.number,
+            entries: after.entries,
+            taken: after.taken,
+            tally,
+        },
+        count: outcome.count,
     }
 }
 

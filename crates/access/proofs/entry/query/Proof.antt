@@ -12,17 +12,14 @@ ended-requires c κs = search needs
 returns-2 : tie.Need-returns-2
 returns-2 c = rw (c .ended .ensures) (ask-ten _ _ (search needs) _ _ (search needs) (search needs))
 
+read-next-requires : tie.Need-read-next-requires
+read-next-requires c κs = search needs
+
 ended-requires-2 : tie.Need-ended-requires-2
 ended-requires-2 c κs = search needs
 
 returns-3 : tie.Need-returns-3
-returns-3 c = rw (c .ended2 .ensures) (ask-eleven _ _ (search needs) _ _ (search needs) (search needs) (search needs))
-
-mul-said : tie.Need-mul-said
-mul-said c = search needs
-
-shared-slice-read-said : tie.Need-shared-slice-read-said
-shared-slice-read-said c = search needs
+returns-3 c = rw (c .ended2 .ensures) (ask-eleven _ _ (search needs) _ _ (search needs) (search needs) (c .before .before .before .read-next .ensures) (c .before .if3 .taken))
 
 said-requires : tie.Need-said-requires
 said-requires c κs = search needs
@@ -36,14 +33,11 @@ log-entry-requires c κs = search needs
 add-t11 : tie.Need-add-t11
 add-t11 c = search needs
 
-add-t12 : tie.Need-add-t12
-add-t12 c = search needs
-
 same-length : tie.Need-same-length
 same-length c = search needs
 
 returns-4 : tie.Need-returns-4
-returns-4 c = ask-entered _ _ (search needs) _ _ _ (search needs) (search needs) (search needs) (c .before .before .before .log-entry .ensures) (search needs) (search needs)
+returns-4 c = ask-entered _ _ (search needs) _ _ _ (search needs) (search needs) (c .before .before .before .before .before .before .before .before .before .read-next .ensures) (c .before .before .before .before .before .before .before .if3 .left) (c .before .before .before .log-entry .ensures) (search needs) (search needs)
 
 pub query-spec : {M : Type 1} → statement M
 query-spec =
@@ -52,14 +46,12 @@ query-spec =
     returns
     ended-requires
     returns-2
+    read-next-requires
     ended-requires-2
     returns-3
-    mul-said
-    shared-slice-read-said
     said-requires
     head-requires
     log-entry-requires
     add-t11
-    add-t12
     same-length
     returns-4)

@@ -6,8 +6,8 @@ use borrow.Author.Needs.{needs}
 use lib.ListN.{length}
 use Rattle.access.specs.Of.{causeOf}
 use Rattle.waits.proofs.Polling.{Polling, polling-starts, polling-stops, polling-ready, polling-again, polling-late}
-use Rattle.waits.proofs.wait.Statement.{statement}
-use Rattle.waits.proofs.wait.Tie as tie
+use Rattle.waits.proofs.poll_until_ready.Statement.{statement}
+use Rattle.waits.proofs.poll_until_ready.Tie as tie
 
 abbrev Inv-loop : tie.InvT-loop
 Inv-loop limit log₀ answers cause current₀ unready₀ log current unready =
@@ -105,8 +105,8 @@ returns-3 c =
     polling-ready (read .before .before .before .loop .inv .1) (read .before .polled .ensures) (read .query .ensures) (ok .if1 .left)
     (test .before .tallied .ensures) (counted .counted .ensures) (counted .before .is-ready .ensures) (test .if2 .taken) (c .count-of .ensures)
 
-pub wait-spec : {M : Type 1} → statement M
-wait-spec =
+pub poll-until-ready-spec : {M : Type 1} → statement M
+poll-until-ready-spec =
     tie.close
     (tie.spec
     Inv-loop
