@@ -1,7 +1,9 @@
 //! Cases in, what the Rust did out: the text form is described in README.md.
 
+mod chain;
 pub mod plan;
 mod run;
+mod sheet;
 mod words;
 
 use std::io::{self, BufRead, Write};

@@ -1,6 +1,8 @@
 //! One case: read, run, written.
 
+use crate::chain::{OF_SHEETS, OF_TRANSACTIONS, chain, run};
 use crate::plan::Plan;
+use crate::sheet::Sheet;
 use crate::words::Words;
 use recorder::Record;
 use recorder::call::{Call, How, Opening};
@@ -25,6 +27,11 @@ impl Lent {
     fn begin(&self, w: &mut Words) -> Result<(), String> {
         let answers = w.list()?;
         w.end()?;
+        self.begin_with(answers);
+        Ok(())
+    }
+
+    fn begin_with(&self, answers: Vec<u32>) {
         match PLAN.take() {
             None => recorder::begin(self.limit, self.log_words / 2, answers),
             Some(mut plan) => {
@@ -32,12 +39,11 @@ impl Lent {
                 recorder::begin_from(self.limit, self.log_words / 2, Box::new(source));
             }
         }
-        Ok(())
     }
 }
 
 /// The chip with QPI or the one without.
-fn call(qpi: bool, rate: u32, c: Call<'_>) -> How {
+pub(crate) fn call(qpi: bool, rate: u32, c: Call<'_>) -> How {
     if qpi {
         d13x::calls::call(rate, c)
     } else {
@@ -106,6 +112,8 @@ pub fn answer(line: &str, out: &mut String) -> Result<(), String> {
         "clock" => clock(w, out),
         "sck" => sck(w, out),
         "dummy" => dummy(w, out),
+        "sheet" => sheet(w, true, out),
+        "print" => sheet(w, false, out),
         name => on_a_bus(name, w, out),
     }
 }
@@ -181,8 +189,8 @@ fn on_a_bus(name: &str, w: &mut Words, out: &mut String) -> Result<(), String> {
             let records = w.list()?;
             let memory = w.bytes()?;
             lent.begin(w)?;
-            match chain(&records, memory.len()) {
-                Some(chain) => receiving(memory, out, |m| transaction(&chain, m)),
+            match chain(&records, OF_TRANSACTIONS, memory.len()) {
+                Some(chain) => receiving(memory, out, |m| run(&chain, true, 0, m)),
                 None => writeln!(out, "refused").unwrap(),
             }
         }
@@ -270,56 +278,30 @@ fn dummy(w: &mut Words, out: &mut String) -> Result<(), String> {
     Ok(())
 }
 
-/// The records along the chain, or nothing where document 01 refuses it (8 or 9): the Rust has no such thing.
-fn chain(words: &[u32], memory: usize) -> Option<Vec<[u32; 8]>> {
-    if words.len() % 8 != 0 {
-        return None;
-    }
-    let records: Vec<[u32; 8]> = words.chunks(8).map(|r| r.try_into().unwrap()).collect();
-    let inside = |start: u32, length: u32| u64::from(start) + u64::from(length) <= memory as u64;
-    let mut on_chain = Vec::new();
-    let mut at = usize::from(!records.is_empty());
-    while at != 0 {
-        let r = records[at - 1];
-        let next = r[7] as usize;
-        let windows = match r[0] {
-            1 | 2 | 4 => inside(r[1], r[2]),
-            3 => inside(r[1], r[2]) && inside(r[3], r[4]),
-            5 => true,
-            _ => return None,
-        };
-        if !windows || (next != 0 && (next <= at || next > records.len())) {
-            return None;
-        }
-        on_chain.push(r);
-        at = next;
-    }
-    Some(on_chain)
-}
+/// The log of a sheet: 4,096 entries.
+const SHEET_LOG_WORDS: usize = 8192;
 
-fn window(start: u32, length: u32) -> std::ops::Range<usize> {
-    start as usize..start as usize + length as usize
-}
-
-/// The chain record by record; a copy of each sent part is taken when it begins.
-fn transaction(chain: &[[u32; 8]], memory: &mut [u8]) -> How {
-    for &[kind, f1, f2, f3, f4, ..] in chain {
-        let how = match kind {
-            1 => {
-                let sent = memory[window(f1, f2)].to_vec();
-                call(true, 0, Call::Write(&sent))
-            }
-            2 => call(true, 0, Call::Read(&mut memory[window(f1, f2)])),
-            3 => {
-                let sent = memory[window(f3, f4)].to_vec();
-                call(true, 0, Call::Transfer(&mut memory[window(f1, f2)], &sent))
-            }
-            4 => call(true, 0, Call::InPlace(&mut memory[window(f1, f2)])),
-            _ => call(true, 0, Call::DelayNs(f1)),
-        };
-        if how != How::Number(0) {
-            return how;
-        }
+/// Runs the bytes as a sheet; the changed ones are told where a memory is asked for, by their place in the sheet.
+fn sheet(w: &mut Words, memory: bool, out: &mut String) -> Result<(), String> {
+    let mut bytes = w.bytes()?;
+    w.end()?;
+    let given = bytes.clone();
+    let Some((s, chain)) = Sheet::read(&bytes).and_then(|s| {
+        let chain = chain(&s.records, OF_SHEETS, bytes.len() - s.memory)?;
+        Some((s, chain))
+    }) else {
+        writeln!(out, "refused").unwrap();
+        return Ok(());
+    };
+    let lent = Lent {
+        limit: u64::from(s.limit),
+        log_words: SHEET_LOG_WORDS,
+    };
+    lent.begin_with(s.answers);
+    let how = run(&chain, s.qpi, s.rate, &mut bytes[s.memory..]);
+    ended(&how, out);
+    if memory {
+        changed(&given, &bytes, out);
     }
-    How::Number(0)
+    Ok(())
 }

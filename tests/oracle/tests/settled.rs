@@ -32,6 +32,14 @@ fn repeated(word: u32, count: usize) -> String {
     format!("{count} {words}")
 }
 
+/// The bytes of a sheet as a case has them: words, then memory.
+fn sheet(words: &[u32], memory: &[u8]) -> String {
+    let mut bytes: Vec<u8> = words.iter().flat_map(|w| w.to_le_bytes()).collect();
+    bytes.extend(memory);
+    let text: Vec<String> = bytes.iter().map(u8::to_string).collect();
+    format!("{} {} {}", bytes.len(), bytes.len(), text.join(" "))
+}
+
 #[test]
 fn sample_sheet() {
     let log = "r 0018 00000000\nw 0018 80008000\nd 0000 0000000a\nr 0030 00000000\nw 0030 00000001\nr 0034 00000000\n\
@@ -40,6 +48,61 @@ fn sample_sheet() {
     assert_eq!(
         lines("write 3 8192 1 1 0x9f 8 0 0 0 0 0 0 0 0").join("\n"),
         log
+    );
+    let mut words = vec![3, 10_000_000, 0, 1, 8, 1, 0, 1];
+    words.resize(21, 0);
+    let sample = sheet(&words, &[0x9f]);
+    assert_eq!(lines(&format!("sheet {sample}")).join("\n"), log);
+    assert_eq!(lines(&format!("print {sample}")).join("\n"), log);
+}
+
+/// A sheet of one record, its answers all 1: ready for every wait, one byte received at a time.
+fn one_record(qpi: u32, record: [u32; 8], answers: usize, memory: &[u8]) -> String {
+    let mut words = vec![3, 100_000_000, qpi, 1, answers as u32];
+    words.extend(record);
+    words.resize(13 + answers, 1);
+    sheet(&words, memory)
+}
+
+#[test]
+fn kinds_of_a_sheet() {
+    let ends = |qpi, record, end: &str| {
+        let case = format!("print {}", one_record(qpi, record, 100, &[7; 4]));
+        assert_eq!(last(&case), end, "{record:?}");
+    };
+    ends(0, [6, 9, 9, 9, 9, 9, 9, 0], "end 0 1 1 1 0");
+    ends(0, [7, 5, 9, 9, 9, 9, 9, 0], "end 0 5 3 1 0");
+    ends(0, [7, 6, 9, 9, 9, 9, 9, 0], "end 2 1 1 1 0");
+    ends(1, [7, 6, 9, 9, 9, 9, 9, 0], "end 0 3 2 1 0");
+    // Command 1 and the one dummy of P7, or the two of P8.
+    ends(0, [8, 0, 1, 80, 0, 1, 1, 0], "end 0 40 22 7 0");
+    ends(0, [8, 0, 1, 81, 0, 1, 1, 0], "end 0 41 22 7 0");
+    ends(0, [9, 0, 1, 9, 9, 1, 1, 0], "end 0 40 22 8 0");
+    for record in [[7, 7], [10, 0], [8, 4], [0, 0]] {
+        ends(1, [record[0], record[1], 1, 0, 0, 0, 0, 0], "refused");
+    }
+    ends(1, [8, 0, 1, 0, 256, 0, 0, 0], "refused");
+    ends(1, [8, 0, 1, 0, 255, 4, 1, 0], "refused");
+}
+
+#[test]
+fn memory_of_a_sheet() {
+    // Sends 1..4 as they stand, then reads into 0..3; the bytes are those of the sheet, behind 33 words.
+    let case = one_record(0, [3, 0, 3, 1, 3, 9, 9, 0], 20, &[5, 6, 7, 8]);
+    let told = lines(&format!("sheet {case}"));
+    let sent: Vec<&str> = told
+        .iter()
+        .filter_map(|l| l.strip_prefix("b 0200 "))
+        .collect();
+    assert_eq!(sent, ["00000006", "00000007", "00000008"]);
+    assert_eq!(
+        told[told.len() - 4..],
+        [
+            "end 0 35 20 7 0",
+            "m 00000084 01",
+            "m 00000085 01",
+            "m 00000086 01"
+        ]
     );
 }
 

@@ -240,6 +240,60 @@ fn chains(l: &mut List) {
     }
 }
 
+/// The bytes of a sheet as a case has them: header, records, answers, memory.
+fn sheet_text(header: [u32; 3], records: &[[u32; 8]], answers: &[u32], memory: &[u8]) -> String {
+    let counts = [records.len() as u32, answers.len() as u32];
+    let words = header.iter().chain(&counts);
+    let words = words.chain(records.iter().flatten()).chain(answers);
+    let mut bytes: Vec<u8> = words.flat_map(|w| w.to_le_bytes()).collect();
+    bytes.extend(memory);
+    let text: Vec<String> = bytes.iter().map(u8::to_string).collect();
+    format!("{} {} {}", bytes.len(), bytes.len(), text.join(" "))
+}
+
+/// A chain of every kind.
+const EVERY_KIND: [[u32; 8]; 10] = [
+    [1, 0, 3, 9, 9, 9, 9, 2],
+    [7, 4, 9, 9, 9, 9, 9, 3],
+    [2, 1, 4, 9, 9, 9, 9, 4],
+    [3, 2, 4, 0, 4, 9, 9, 5],
+    [4, 1, 6, 9, 9, 9, 9, 6],
+    [5, 1001, 9, 9, 9, 9, 9, 7],
+    [6, 9, 9, 9, 9, 9, 9, 8],
+    [8, 0, 4, 81, 1, 2, 5, 9],
+    [9, 1, 2, 9, 9, 0, 8, 10],
+    [7, 6, 9, 9, 9, 9, 9, 0],
+];
+
+/// Sheets: windows that overlap, records that are skipped, every kind on both chips, slow waits, answers short by one.
+fn sheets(l: &mut List) {
+    let memory = [1, 2, 3, 4, 5, 6, 7, 8];
+    let chains: [(u32, &[[u32; 8]]); 6] = [
+        (0, &[]),
+        (1, &[[1, 0, 3, 9, 9, 9, 9, 0]]),
+        (0, &[[8, 0, 3, 0, 0, 1, 4, 2], [9, 1, 3, 9, 9, 0, 4, 0]]),
+        (
+            1,
+            &[[6, 9, 9, 9, 9, 9, 9, 3], [99; 8], [4, 0, 8, 9, 9, 9, 9, 0]],
+        ),
+        (0, &EVERY_KIND),
+        (1, &EVERY_KIND),
+    ];
+    for (chip, chain) in chains {
+        for unready in [&[0][..], &[0, 1, 0], &[0, 0, 2], &[0, 0, 0, 0, 0, 2, 0]] {
+            let (header, plan) = ([2, 100_000_000, chip], l.plan(unready, 3));
+            let asked = sheet_text(header, chain, &[], &memory);
+            let answers = answered_by(&format!("sheet {asked}"), plan);
+            for answers in [&answers[..], &answers[..answers.len().saturating_sub(1)]] {
+                l.call(&format!(
+                    "sheet {}",
+                    sheet_text(header, chain, answers, &memory)
+                ));
+            }
+        }
+    }
+}
+
 /// Openings of every kind, and releases.
 fn openings(l: &mut List) {
     let plan = Plan::new(&[0], 64, 11);
@@ -361,6 +415,7 @@ fn main() {
     chains(&mut l);
     openings(&mut l);
     clocks(&mut l);
+    sheets(&mut l);
     for case in &l.cases {
         let mut text = String::new();
         answer(case, &mut text).unwrap_or_else(|why| panic!("{case}: {why}"));
