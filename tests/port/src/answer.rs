@@ -1,6 +1,7 @@
 //! One case: read, run, written.
 
 use crate::exports::{self, Ended, Lent};
+use crate::program;
 use crate::words::Words;
 use std::fmt::Write as _;
 use std::io::{self, BufRead, Write};
@@ -9,7 +10,7 @@ use std::io::{self, BufRead, Write};
 type Answer = fn(&mut Words, &mut String) -> Result<(), String>;
 
 /// Every case name and what answers it.
-const CASES: [(&str, Answer); 14] = [
+const CASES: [(&str, Answer); 15] = [
     ("open", open),
     ("free", free),
     ("write", write),
@@ -24,13 +25,13 @@ const CASES: [(&str, Answer); 14] = [
     ("clock", clock),
     ("sck", sck),
     ("dummy", dummy),
+    ("print", print),
 ];
 
 /// What a log word holds before a call, so that one written past the last entry shows.
 const UNTOUCHED: u32 = 0x5AA5_C33C;
 
-/// Makes a call on a lent log and the answers that end the case, and writes the log, the end line and, if a word past the
-/// last entry no longer has its value, `changed`.
+/// Makes a call on a lent log and the answers that end the case, and writes how it ended.
 fn call(
     limit: u32,
     log_words: usize,
@@ -46,7 +47,12 @@ fn call(
         log: &mut log,
         answers: &answers,
     });
-    let (made, past) = log.split_at((e.entries * 2).min(log_words));
+    ended(e, &log, out)
+}
+
+/// Writes the log, the end line and, if a word past the last entry no longer has its value, `changed`.
+fn ended(e: Ended, log: &[u32], out: &mut String) -> Result<(), String> {
+    let (made, past) = log.split_at((e.entries * 2).min(log.len()));
     for entry in made.chunks_exact(2) {
         let op = (entry[0] >> 16).checked_sub(1);
         let letter = op
@@ -223,6 +229,13 @@ fn dummy(w: &mut Words, out: &mut String) -> Result<(), String> {
     w.end()?;
     let count = exports::dummy_bytes_for(rate, tclqv_ns, margin);
     writeln!(out, "dummy {count}").map_err(|e| e.to_string())
+}
+
+fn print(w: &mut Words, out: &mut String) -> Result<(), String> {
+    let bytes = w.bytes()?;
+    w.end()?;
+    out.push_str(&program::printed(&bytes).map_err(|e| e.to_string())?);
+    Ok(())
 }
 
 /// Answers one case line.

@@ -4,5 +4,6 @@
 pub mod answer;
 #[allow(unsafe_code)]
 pub mod exports;
+mod program;
 #[path = "../../oracle/src/words.rs"]
 pub mod words;
