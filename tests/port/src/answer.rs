@@ -10,7 +10,7 @@ use std::io::{self, BufRead, Write};
 type Answer = fn(&mut Words, &mut String) -> Result<(), String>;
 
 /// Every case name and what answers it.
-const CASES: [(&str, Answer); 15] = [
+const CASES: [(&str, Answer); 16] = [
     ("open", open),
     ("free", free),
     ("write", write),
@@ -25,8 +25,12 @@ const CASES: [(&str, Answer); 15] = [
     ("clock", clock),
     ("sck", sck),
     ("dummy", dummy),
+    ("sheet", sheet),
     ("print", print),
 ];
+
+/// The log of a sheet: 4,096 entries.
+const SHEET_LOG_WORDS: usize = 8192;
 
 /// What a log word holds before a call, so that one written past the last entry shows.
 const UNTOUCHED: u32 = 0x5AA5_C33C;
@@ -231,6 +235,17 @@ fn dummy(w: &mut Words, out: &mut String) -> Result<(), String> {
     writeln!(out, "dummy {count}").map_err(|e| e.to_string())
 }
 
+fn sheet(w: &mut Words, out: &mut String) -> Result<(), String> {
+    let mut bytes = w.bytes()?;
+    w.end()?;
+    let given = bytes.clone();
+    let mut log = vec![UNTOUCHED; SHEET_LOG_WORDS];
+    let e = exports::sheet(&mut log, &mut bytes);
+    ended(e, &log, out)?;
+    changes(&given, &bytes, out);
+    Ok(())
+}
+
 fn print(w: &mut Words, out: &mut String) -> Result<(), String> {
     let bytes = w.bytes()?;
     w.end()?;
@@ -272,12 +287,13 @@ mod tests {
     #[test]
     fn names_and_ends() {
         let mut out = Vec::new();
-        let input = "# a comment\n\ntransaction 1 2 0 0 0 0\nflush 3 100 0\nflash 1\nclock 24000000 10000000\n";
+        let input = "# a comment\n\ntransaction 1 2 0 0 0 0\nflush 3 100 0\nflash 1\nclock 24000000 10000000\nsheet 19 0\nsheet 20 1 1\nprint 20 0\n";
         answer_all(input.as_bytes(), &mut out).unwrap();
         let text = String::from_utf8(out).unwrap();
         assert_eq!(
             text,
-            "end 0 0 0 0 0\n.\nend 11 0 0 0 0\n.\nerror flash is no case\n.\nclock 2 1 0 8000000\n.\n"
+            "end 0 0 0 0 0\n.\nend 11 0 0 0 0\n.\nerror flash is no case\n.\nclock 2 1 0 8000000\n.\n\
+             end 13 0 0 0 0\n.\nend 0 0 0 0 0\n.\nend 7 0 0 0 0\n.\n"
         );
     }
 }

@@ -164,6 +164,16 @@ unsafe extern "C" {
         polls: &mut usize,
         longest: &mut u32,
     ) -> u32;
+    fn qspi_sheet(
+        bytes: *mut u8,
+        bytes_len: usize,
+        log: *mut u32,
+        log_len: usize,
+        entries: &mut usize,
+        taken: &mut usize,
+        polls: &mut usize,
+        longest: &mut u32,
+    ) -> u32;
     fn qspi_free(
         log: *mut u32,
         log_len: usize,
@@ -362,6 +372,25 @@ pub fn transaction(lent: &mut Lent, memory: &mut [u8], words: &[u32]) -> Ended {
         words.as_ptr(),
         words.len()
     )
+}
+
+/// The bytes of a whole sheet, its memory at their end.
+pub fn sheet(log: &mut [u32], bytes: &mut [u8]) -> Ended {
+    let mut e = Ended::default();
+    // Every pointer and its length are those of a slice.
+    e.number = unsafe {
+        qspi_sheet(
+            bytes.as_mut_ptr(),
+            bytes.len(),
+            log.as_mut_ptr(),
+            log.len(),
+            &mut e.entries,
+            &mut e.taken,
+            &mut e.polls,
+            &mut e.longest,
+        )
+    };
+    e
 }
 
 /// The limit of unready polls in one wait that the Rust has.
