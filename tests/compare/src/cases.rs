@@ -23,6 +23,9 @@ pub fn cases(mut words: impl Iterator<Item = String>) -> Result<Box<dyn Iterator
         let text = std::fs::read_to_string(&path).map_err(|e| format!("{path}: {e}"))?;
         let wanted = |line: &&str| is_case(line) && only.iter().any(|n| line.split_whitespace().next() == Some(n));
         let lines: Vec<String> = text.lines().filter(wanted).map(String::from).collect();
+        if lines.is_empty() {
+            return Err(format!("{path} has no case"));
+        }
         return Ok(Box::new(lines.into_iter()));
     }
     let mut rng = Rng(seed);

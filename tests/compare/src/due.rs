@@ -22,6 +22,14 @@ fn buffer(f: &mut Numbers) -> Option<u64> {
     some(f, given).map(|_| length)
 }
 
+/// A buffer's bytes.
+fn bytes(f: &mut Numbers) -> Option<Vec<u64>> {
+    let (length, given) = (f.next()?, f.next()?);
+    let mut bytes = some(f, given)?;
+    bytes.resize(length as usize, 0);
+    Some(bytes)
+}
+
 /// The number of the refusal that is due, or 0. Nothing where the line cannot be read.
 pub fn due(line: &str) -> Option<u32> {
     let mut words = line.split_whitespace();
@@ -31,6 +39,7 @@ pub fn due(line: &str) -> Option<u32> {
         "open" => some(f, 15).map(|f| open(&f)),
         "sck" => some(f, 4).map(|f| if f[1] > 31 || (f[2] == 1 && f[3] > 15) { 12 } else { 0 }),
         "free" | "clock" | "dummy" => Some(0),
+        "sheet" | "print" => bytes(f).map(|b| sheet(&b)),
         _ if some(f, 2)?[0] == 0 => Some(7),
         _ => on_a_bus(name, f),
     }
@@ -68,13 +77,33 @@ fn on_a_bus(name: &str, f: &mut Numbers) -> Option<u32> {
         "transaction" => {
             let count = f.next()?;
             let words = some(f, count)?;
-            transaction(&words, buffer(f)?)
+            chain(&words, 5, buffer(f)?)
         }
         _ => return None,
     })
 }
 
-fn transaction(words: &[u64], memory: u64) -> u32 {
+/// 13 comes before 7, and 7 before what the chain is refused by.
+fn sheet(bytes: &[u64]) -> u32 {
+    let length = bytes.len() as u64;
+    if !(20..=65_536).contains(&length) {
+        return 13;
+    }
+    let word = |i: usize| bytes[4 * i..4 * i + 4].iter().rev().fold(0, |word, byte| 256 * word + byte);
+    let [limit, qpi, records, answers] = [0, 2, 3, 4].map(word);
+    let needed = 20 + 32 * records + 4 * answers;
+    if qpi > 1 || needed > length {
+        return 13;
+    }
+    if limit == 0 {
+        return 7;
+    }
+    let words: Vec<u64> = (5..5 + 8 * records as usize).map(word).collect();
+    chain(&words, 9, length - needed)
+}
+
+/// The first refusal along a chain whose kinds go from 1 to `highest`.
+fn chain(words: &[u64], highest: u64, memory: u64) -> u32 {
     if !words.len().is_multiple_of(8) {
         return 8;
     }
@@ -83,27 +112,32 @@ fn transaction(words: &[u64], memory: u64) -> u32 {
     let mut number = 0;
     while at != 0 && number == 0 {
         let r = records[at - 1];
-        number = record(r, at as u64, records.len() as u64, memory);
-        at = r[7] as usize;
+        let next = r[7] as usize;
+        let leads = next == 0 || (next > at && next <= records.len());
+        number = if leads && (1..=highest).contains(&r[0]) { record(r, memory) } else { 8 };
+        at = next;
     }
     number
 }
 
-/// The refusal of one record: 8, then 9, then 6. A transfer in place is sent by parts, so its length is not refused.
-fn record(r: &[u64], at: u64, count: u64, memory: u64) -> u32 {
-    let (kind, next) = (r[0], r[7]);
-    let windows = match kind {
-        1 | 2 | 4 => 1,
-        3 => 2,
-        _ => 0,
+/// The refusal of one record's fields: 8, then 9, then 6. A transfer in place is sent by parts and the command of a quad
+/// read is cut, so their lengths are not refused.
+fn record(r: &[u64], memory: u64) -> u32 {
+    let kind = r[0];
+    let (windows, lengths): (&[usize], &[usize]) = match kind {
+        1 | 2 => (&[1], &[2]),
+        3 => (&[1, 3], &[2, 4]),
+        4 => (&[1], &[]),
+        8 => (&[1, 5], &[6]),
+        9 => (&[1, 5], &[2, 6]),
+        _ => (&[], &[]),
     };
-    let windows = r[1..5].chunks(2).take(windows);
-    if !(1..=5).contains(&kind) || (next != 0 && (next <= at || next > count)) {
+    if (kind == 7 && r[1] > 6) || (kind == 8 && r[4] > 255) {
         8
-    } else if windows.clone().any(|w| w[0] + w[1] > memory) {
+    } else if windows.iter().any(|&at| r[at] + r[at + 1] > memory) {
         9
     } else {
-        windows.map(|w| if kind == 4 { 0 } else { phases(&w[1..]) }).max().unwrap_or(0)
+        lengths.iter().map(|&at| phases(&[r[at]])).max().unwrap_or(0)
     }
 }
 
@@ -154,5 +188,66 @@ mod tests {
             let line = format!("transaction 1 0 16 {record} 0 0 0 0 0 0 0 0 0x2000000 0 0");
             assert_eq!(due(&line), Some(number), "{line}");
         }
+    }
+
+    fn sheet(header: [u32; 5], records: &[[u32; 8]], more: usize) -> String {
+        let words = header.iter().chain(records.iter().flatten());
+        let bytes: Vec<u8> = words.flat_map(|w| w.to_le_bytes()).collect();
+        let text: Vec<String> = bytes.iter().map(u8::to_string).collect();
+        format!("sheet {} {} {}", bytes.len() + more, bytes.len(), text.join(" "))
+    }
+
+    #[test]
+    fn headers() {
+        for (header, more, number) in [
+            ([1, 0, 0, 0, 0], 0, 0),
+            ([0, 0, 1, 0, 0], 65_516, 7),
+            ([0, 0, 1, 0, 0], 65_517, 13),
+            ([0, 0, 2, 0, 0], 0, 13),
+            ([0, 0, 0, 1, 1], 35, 13),
+            ([1, 0, 0, 1, 1], 36, 8),
+            ([1, 0, 0, 0x0800_0000, 0], 99, 13),
+            ([1, 0, 0, 0, 0x4000_0000], 99, 13),
+            ([1, 0, 0, 0x0400_0000, 0x2000_0000], 99, 13),
+            ([1, 0, 0, u32::MAX, u32::MAX], 99, 13),
+        ] {
+            assert_eq!(due(&sheet(header, &[], more)), Some(number), "{header:x?}");
+        }
+        assert_eq!((due("print 0 0"), due("print 19 2 1 1")), (Some(13), Some(13)));
+    }
+
+    /// One record on a memory of three bytes.
+    #[test]
+    fn kinds_of_a_sheet() {
+        const ALL: u32 = u32::MAX;
+        for (record, number) in [
+            ([1, 1, 2, ALL, ALL, ALL, ALL, 0], 0),
+            ([1, 2, 2, ALL, ALL, ALL, ALL, 0], 9),
+            ([4, 4, 0, ALL, ALL, ALL, ALL, 0], 9),
+            ([6, ALL, ALL, ALL, ALL, ALL, ALL, 0], 0),
+            ([6, 0, 0, 0, 0, 0, 0, 1], 8),
+            ([7, 6, ALL, ALL, ALL, ALL, ALL, 0], 0),
+            ([7, 7, ALL, ALL, ALL, ALL, ALL, 0], 8),
+            ([8, 0, 3, ALL, 255, 3, 0, 0], 0),
+            ([8, 0, 4, ALL, 256, 3, 0, 0], 8),
+            ([8, 0, 4, ALL, 255, 3, 0, 0], 9),
+            ([8, 0, 3, ALL, 255, 3, 1, 0], 9),
+            ([9, 0, 3, ALL, ALL, 2, 1, 0], 0),
+            ([9, ALL, 1, ALL, ALL, 2, 1, 0], 9),
+            ([9, 0, 3, ALL, ALL, 2, 2, 0], 9),
+            ([10, 0, 0, 0, 0, 0, 0, 0], 8),
+            ([0, 0, 0, 0, 0, 0, 0, 0], 8),
+        ] {
+            assert_eq!(due(&sheet([1, 0, 0, 1, 0], &[record], 3)), Some(number), "{record:x?}");
+        }
+    }
+
+    /// A transaction has no flush, and a sheet goes on to its second record.
+    #[test]
+    fn which_kinds() {
+        assert_eq!(due("transaction 1 0 8 6 0 0 0 0 0 0 0 0 0 0"), Some(8));
+        let (flush, unknown) = ([6, 0, 0, 0, 0, 0, 0, 2], [10, 0, 0, 0, 0, 0, 0, 0]);
+        assert_eq!(due(&sheet([1, 0, 0, 2, 0], &[flush, unknown], 0)), Some(8));
+        assert_eq!(due(&sheet([1, 0, 0, 2, 0], &[flush, flush], 0)), Some(8));
     }
 }

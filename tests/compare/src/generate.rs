@@ -1,12 +1,13 @@
 //! Case lines from a source of numbers.
 
 use crate::rng::Rng;
-use crate::walk::Walk;
+use crate::sheet::sheet;
+use crate::walk::{Bus, Walk, frame};
 use std::fmt::Write;
 
-pub const NAMES: [&str; 14] = [
+pub const NAMES: [&str; 16] = [
     "open", "free", "write", "read", "inplace", "transfer", "flush", "mode", "quadread", "quadwrite", "transaction",
-    "clock", "sck", "dummy",
+    "clock", "sck", "dummy", "sheet", "print",
 ];
 
 const HUGE: [usize; 3] = [0xFF_FFFF, 0x100_0000, 0x100_0001];
@@ -28,6 +29,7 @@ pub fn case(rng: &mut Rng, name: &str) -> String {
             let [rate, tclqv, margin] = timing(rng);
             format!("dummy {rate} {tclqv} {margin}")
         }
+        "sheet" | "print" => format!("{name}{}", sheet(rng)),
         _ => on_a_bus(rng, name),
     }
 }
@@ -58,7 +60,7 @@ fn log_words(walk: &mut Walk) -> usize {
 }
 
 /// Now and then takes answers away, adds some or makes some random.
-fn disturb(rng: &mut Rng, answers: &mut Vec<u32>) {
+pub fn disturb(rng: &mut Rng, answers: &mut Vec<u32>) {
     let n = answers.len();
     match rng.below(24) {
         0 => answers.truncate(rng.below(n + 1)),
@@ -77,7 +79,7 @@ fn line(before: &str, mut walk: Walk, fields: &str) -> String {
     format!("{before} {log}{fields}{}", list(&walk.answers))
 }
 
-fn length(rng: &mut Rng) -> usize {
+pub fn length(rng: &mut Rng) -> usize {
     match rng.below(2000) {
         0 => rng.pick(&HUGE),
         1..500 => rng.below(3),
@@ -101,8 +103,11 @@ fn on_a_bus(rng: &mut Rng, name: &str) -> String {
         "flush" => (String::new(), walk.flush()),
         "mode" => (format!(" {qpi} {mode}"), walk.mode(mode, qpi == 1)),
         "transaction" => {
-            let words = chain(walk.rng, a);
-            (list(&words) + &one, walk.chain(&words))
+            let mut words = chain(walk.rng, 5, 0, a);
+            if walk.rng.once_in(6) {
+                damage(walk.rng, &mut words);
+            }
+            (list(&words) + &one, walk.chain(&words, Bus { rate: 0, qpi: true }))
         }
         _ => {
             let (command, sent) = command(walk.rng, name == "quadread");
@@ -120,10 +125,7 @@ fn command(rng: &mut Rng, reads: bool) -> (String, usize) {
         return (command, length);
     }
     let [rate, tclqv, margin] = timing(rng);
-    let bits = (u64::from(rate) * u64::from(tclqv)).div_ceil(1_000_000_000);
-    let sum = bits.div_ceil(8) % 256 + u64::from(margin);
-    let dummies = if bits == 0 { sum.min(8) } else { sum.clamp(1, 8) } as usize;
-    (format!(" {rate}{command} {tclqv} {margin}"), length.min(16 - dummies) + dummies)
+    (format!(" {rate}{command} {tclqv} {margin}"), frame(length, [rate, tclqv, margin]))
 }
 
 fn instance(rng: &mut Rng) -> u32 {
@@ -187,57 +189,88 @@ fn dividers(rng: &mut Rng) -> String {
     }
 }
 
-/// Rate, tclqv and margin, often where the number of dummies turns.
+/// Rate, tclqv and margin.
 fn timing(rng: &mut Rng) -> [u32; 3] {
-    let (sized, any, byte) = (rng.sized(), rng.sized(), rng.below(256) as u32);
-    let rate = rng.pick(&[0, 1, 100_000, 10_000_000, 100_000_000, u32::MAX, sized, sized]);
+    let rate = hz(rng);
+    let [tclqv, margin] = delay(rng, rate);
+    [rate, tclqv, margin]
+}
+
+pub fn hz(rng: &mut Rng) -> u32 {
+    let sized = rng.sized();
+    rng.pick(&[0, 1, 100_000, 10_000_000, 100_000_000, u32::MAX, sized, sized])
+}
+
+/// tclqv and margin, often where the number of dummies turns.
+fn delay(rng: &mut Rng, rate: u32) -> [u32; 2] {
+    let (any, byte) = (rng.sized(), rng.below(256) as u32);
     let bytes = rng.pick(&[1, 2, 8, 9, 254, 255, 256, 256, 256, 257, 512]);
     let turn = 8_000_000_000_u64 * bytes / u64::from(rate.max(1));
     let near = rng.near(turn.min(u64::from(u32::MAX)) as u32);
     let tclqv = rng.pick(&[0, 1, 8, 80, u32::MAX, any, near, near, near, near, near]);
     let margin = rng.pick(&[0, 0, 0, 1, 3, 7, 8, 9, 254, 255, byte]);
-    [rate, tclqv, margin]
+    [tclqv, margin]
 }
 
 /// A window of the memory: start and length.
-fn window(rng: &mut Rng, memory: usize) -> [u32; 2] {
+pub fn window(rng: &mut Rng, memory: usize) -> [u32; 2] {
     let most = rng.pick(&[3, 70, 70, 600]).min(memory);
     let some = rng.below(most + 1);
     let length = rng.pick(&[0, some, some, some, some, memory]);
     [rng.below(memory - length + 1) as u32, length as u32]
 }
 
-/// The words of a chain on a memory of the given length.
-fn chain(rng: &mut Rng, memory: usize) -> Vec<u32> {
-    let count = rng.below(6);
+/// The fields f1 to f6 of a record on a memory of the given length, those that its kind does not use as they come.
+fn fields(rng: &mut Rng, kind: u32, rate: u32, memory: usize) -> [u32; 6] {
+    let [[a, b], [c, d]] = [(); 2].map(|()| window(rng, memory));
+    let [tclqv, margin] = delay(rng, rate);
+    let (ns, mode) = (rng.pick(&[0, 1, 2, 3, 1000, u32::MAX]), rng.pick(&[0, 1, 2, 3, 4, 5, 6, 6, 6]));
+    let any = [(); 6].map(|()| rng.word());
+    match kind {
+        1 | 2 | 4 => [a, b, any[2], any[3], any[4], any[5]],
+        3 => [a, b, c, d, any[4], any[5]],
+        5 => [ns, any[1], any[2], any[3], any[4], any[5]],
+        7 => [mode, any[1], any[2], any[3], any[4], any[5]],
+        8 => [a, b, tclqv, margin, c, d],
+        9 => [a, b, any[2], any[3], c, d],
+        _ => any,
+    }
+}
+
+/// The words of a chain of kinds up to `highest` on a memory of the given length.
+pub fn chain(rng: &mut Rng, highest: u32, rate: u32, memory: usize) -> Vec<u32> {
+    let count = rng.pick(&[0, 1, 1, 1, 2, 2, 2, 3, 3, 4, 4, 5, 5, 6, 7]);
     let mut words = Vec::new();
     for number in 1..=count {
-        let kind = 1 + rng.below(5) as u32;
-        let ([start, f2], [f3, f4]) = (window(rng, memory), window(rng, memory));
-        let ns = rng.pick(&[0, 1, 2, 3, 1000, u32::MAX]);
+        let kind = 1 + rng.below(highest as usize) as u32;
         let next = number + 1 + usize::from(rng.once_in(4));
         let next = if next > count { 0 } else { next as u32 };
-        let f1 = if kind == 5 { ns } else { start };
-        words.extend([kind, f1, f2, f3, f4, rng.word(), rng.word(), next]);
-    }
-    if rng.once_in(6) {
-        damage(rng, &mut words);
+        words.push(kind);
+        words.extend(fields(rng, kind, rate, memory));
+        words.push(next);
     }
     words
 }
 
-/// Makes one word of a chain wrong, or its length.
+/// Makes one word of a transaction's chain wrong, or its length.
 fn damage(rng: &mut Rng, words: &mut Vec<u32>) {
-    let (more, count) = (1 + rng.below(7), words.len() / 8);
-    if count == 0 || rng.once_in(6) {
-        return words.extend((0..more).map(|_| rng.word()));
+    let more = 1 + rng.below(7);
+    if words.len() < 8 || rng.once_in(6) {
+        words.extend((0..more).map(|_| rng.word()));
+    } else {
+        damage_record(rng, words);
     }
-    let (at, field) = (rng.below(count), rng.pick(&[0, 1, 2, 3, 4, 7]));
+}
+
+/// Makes one word of a record wrong.
+pub fn damage_record(rng: &mut Rng, words: &mut [u32]) {
+    let count = words.len() / 8;
+    let (at, field) = (rng.below(count), rng.pick(&[0, 0, 1, 2, 3, 4, 5, 6, 7, 7]));
     let any = rng.sized();
     let word = &mut words[8 * at + field];
     *word = match field {
-        0 => rng.pick(&[0, 6, 7, 8, 9, any]),
+        0 => rng.pick(&[0, 6, 7, 8, 9, 10, u32::MAX, any]),
         7 => rng.pick(&[1, at as u32 + 1, count as u32 + 1, u32::MAX, any]),
-        _ => rng.pick(&[word.wrapping_add(1), word.wrapping_sub(1), u32::MAX, any]),
+        _ => rng.pick(&[word.wrapping_add(1), word.wrapping_sub(1), 7, 256, u32::MAX, any]),
     };
 }

@@ -6,6 +6,7 @@ mod due;
 mod generate;
 mod judge;
 mod rng;
+mod sheet;
 #[cfg(test)]
 mod tests;
 mod walk;
@@ -13,7 +14,7 @@ mod walk;
 use cases::cases;
 use child::Child;
 use judge::{Verdict, judge};
-use std::collections::VecDeque;
+use std::collections::{BTreeMap, VecDeque};
 use std::process::ExitCode;
 use std::sync::Arc;
 use std::time::{Duration, Instant};
@@ -28,6 +29,8 @@ const UNDER_WAY: usize = 4096;
 struct Tally {
     /// How many cases have each verdict, in the order of `Verdict`.
     counts: [usize; 4],
+    /// How many calls of the port ended with each number.
+    ends: BTreeMap<u32, usize>,
     /// The shortest case that differs, and its two answers.
     shortest: Option<[String; 3]>,
 }
@@ -36,15 +39,30 @@ impl Tally {
     fn add(&mut self, [line, oracle, port]: [String; 3]) {
         let verdict = judge(&line, &oracle, &port);
         self.counts[verdict as usize] += 1;
+        if let Some(number) = number(&port) {
+            *self.ends.entry(number).or_default() += 1;
+        }
         if verdict == Verdict::Different && self.shortest.as_ref().is_none_or(|s| line.len() < s[0].len()) {
             self.shortest = Some([line, oracle, port]);
         }
+    }
+
+    /// `ended 12 by 0, 3 by 1`; nothing where no case is a call.
+    fn numbers(&self) -> String {
+        let each: Vec<String> = self.ends.iter().map(|(number, count)| format!("{count} by {number}")).collect();
+        if each.is_empty() { String::new() } else { format!("ended {}\n", each.join(", ")) }
     }
 
     fn text(&self) -> String {
         let [same, excluded, missing, different] = self.counts;
         format!("{} compared, {excluded} excluded, {missing} missing, {different} differences", same + different)
     }
+}
+
+/// The number of an answer's end line.
+fn number(answer: &str) -> Option<u32> {
+    let end = answer.lines().find_map(|l| l.strip_prefix("end "))?;
+    end.split(' ').next()?.parse().ok()
 }
 
 fn compare(cases: impl Iterator<Item = String>) -> Result<Tally, String> {
@@ -90,7 +108,7 @@ fn main() -> ExitCode {
     let tally = cases(std::env::args().skip(1)).and_then(compare);
     match tally.and_then(|t| save(&t).map(|()| t)) {
         Ok(tally) => {
-            println!("{}", tally.text());
+            println!("{}{}", tally.numbers(), tally.text());
             ExitCode::from(u8::from(tally.shortest.is_some()))
         }
         Err(why) => {

@@ -4,11 +4,16 @@ use crate::cases::cases;
 use crate::child::Child;
 use crate::due::due;
 use crate::generate::NAMES;
-use std::collections::BTreeSet;
+use crate::number;
+use std::collections::{BTreeMap, BTreeSet};
 use std::sync::Arc;
 
 fn made(count: &str) -> Vec<String> {
-    let words = ["--seed", "1", "--count", count].map(String::from);
+    made_only(count, &NAMES.join(","))
+}
+
+fn made_only(count: &str, names: &str) -> Vec<String> {
+    let words = ["--seed", "1", "--count", count, "--only", names].map(String::from);
     cases(words.into_iter()).unwrap().collect()
 }
 
@@ -25,20 +30,40 @@ fn every_name_is_reached() {
     assert_eq!(lines, made("1000"));
 }
 
-#[test]
-fn the_oracle_takes_every_line_and_ends_in_every_way() {
-    let lines = made("2000");
+/// The oracle's answers; it has one for each line that is not refused.
+fn answers(lines: &[String]) -> Vec<String> {
     let mut oracle = Child::start("oracle").unwrap();
     oracle.send(&Arc::new(lines.join("\n") + "\n"));
     oracle.close();
-    let mut ends = BTreeSet::new();
-    for line in &lines {
-        let answer = oracle.answer().unwrap();
-        assert!(!answer.starts_with("error"), "{line}: {answer}");
-        assert!(due(line) != Some(0) || !no_answer(&answer), "{line}: {answer}");
-        let end = answer.lines().find_map(|l| l.strip_prefix("end "));
-        ends.extend(end.map(|e| e.split(' ').next().unwrap().to_string()));
-    }
+    let answers: Vec<String> = lines.iter().map(|_| oracle.answer().unwrap()).collect();
     oracle.finish().unwrap();
-    assert_eq!(ends, BTreeSet::from(["0", "1", "2", "10", "11"].map(String::from)));
+    for (line, answer) in lines.iter().zip(&answers) {
+        assert!(!answer.starts_with("error"), "{line}: {answer}");
+        assert!(due(line) != Some(0) || !no_answer(answer), "{line}: {answer}");
+    }
+    answers
+}
+
+#[test]
+fn the_oracle_takes_every_line_and_ends_in_every_way() {
+    let ends: BTreeSet<u32> = answers(&made("2000")).iter().filter_map(|a| number(a)).collect();
+    assert_eq!(ends, BTreeSet::from([0, 1, 2, 10, 11]));
+}
+
+/// Of the sheets two thirds are not refused and one third is done; each number comes up, and a log that is just full.
+#[test]
+fn sheets_are_mostly_run() {
+    let lines = made_only("3000", "sheet");
+    let answers = answers(&lines);
+    let mut ends = BTreeMap::new();
+    for (line, answer) in lines.iter().zip(&answers) {
+        let end = due(line).filter(|&n| n > 0).or_else(|| number(answer));
+        *ends.entry(end.unwrap()).or_insert(0) += 1;
+    }
+    assert!(ends.keys().eq(&[0, 1, 2, 7, 8, 9, 10, 11, 13]), "{ends:?}");
+    let run: u32 = [0, 1, 2, 10, 11].iter().map(|number| ends[number]).sum();
+    assert!(run > 2000 && ends[&0] > 1000 && ends.values().all(|&n| n > 9), "{ends:?}");
+    for end in ["end 0 4096 ", "end 10 4096 ", "end 0 4095 "] {
+        assert!(answers.iter().any(|a| a.contains(end)), "{end}");
+    }
 }

@@ -7,13 +7,26 @@ const SENT_COUNT: u32 = 0xFF << 16;
 const RECEIVED_COUNT: u32 = 0xFF;
 /// The most bytes of one phase that are walked; a longer one runs out of answers.
 const WALKED: usize = 600;
+/// The entries of a chain after which no further record is walked.
+const LONG: usize = 5000;
 
-/// A run under way: the answers it takes and the entries it makes. A step that gives false has timed out.
+/// What a chain runs on: the bus's rate, and whether the chip has QPI.
+#[derive(Clone, Copy)]
+pub struct Bus {
+    pub rate: u32,
+    pub qpi: bool,
+}
+
+/// A run under way: the answers it takes and the entries it makes. A step that gives false has ended the run.
 pub struct Walk<'a> {
     pub rng: &'a mut Rng,
     pub limit: usize,
     /// How many waits of a hundred have an unready poll.
     unready: usize,
+    /// The most unready polls of a wait that are about as many as the limit.
+    about: usize,
+    /// The most bytes of one phase that are walked.
+    pub walked: usize,
     pub answers: Vec<u32>,
     pub entries: usize,
 }
@@ -22,7 +35,17 @@ impl<'a> Walk<'a> {
     pub fn new(rng: &'a mut Rng) -> Self {
         let limit = rng.pick(&[1, 1, 1, 1, 2, 2, 2, 2, 3, 3, 3, 3, 5, 5, 5, 5, 100, 100, 100, 100_000, 0]);
         let unready = rng.pick(&[0, 0, 10, 30]);
-        Walk { rng, limit, unready, answers: Vec::new(), entries: 0 }
+        Walk { rng, limit, unready, about: 100_001, walked: WALKED, answers: Vec::new(), entries: 0 }
+    }
+
+    /// A sheet has no room for 100,000 answers, but any limit.
+    pub fn of_sheet(rng: &'a mut Rng) -> Self {
+        let mut walk = Walk::new(rng);
+        if walk.limit == 100_000 {
+            walk.limit = walk.rng.pick(&[4096, 100_000, 1 << 31, 0xFFFF_FFFF]);
+        }
+        walk.about = 200;
+        walk
     }
 
     /// Register steps: a read and a write each.
@@ -40,7 +63,7 @@ impl<'a> Walk<'a> {
     /// Polls that have `unready` in the bits of `mask`, none, a few or about as many as the limit; then `ready` there.
     fn wait(&mut self, mask: u32, ready: u32, unready: u32) -> bool {
         let (few, about) = (1 + self.rng.below(3), self.rng.near(self.limit as u32) as usize);
-        let about = if about < 200 || self.rng.once_in(20) { about } else { few };
+        let about = if about < 200 || (about <= self.about && self.rng.once_in(20)) { about } else { few };
         let n = if self.rng.below(100) < self.unready { self.rng.pick(&[few, about]) } else { 0 };
         let done = n < self.limit;
         let polls = n.min(self.limit) + usize::from(done);
@@ -78,7 +101,7 @@ impl<'a> Walk<'a> {
         }
         self.changes(5);
         self.delays(1);
-        let mut left = length.min(WALKED);
+        let mut left = length.min(self.walked);
         while left > 0 {
             let n = self.portion(left, receives);
             if n == 0 {
@@ -95,13 +118,13 @@ impl<'a> Walk<'a> {
     }
 
     pub fn in_place(&mut self, length: usize) -> bool {
-        let length = length.min(WALKED);
+        let length = length.min(self.walked);
         let mut parts = (0..length).step_by(256).map(|at| (length - at).min(256));
         parts.all(|n| self.transfer(n, n))
     }
 
     pub fn mode(&mut self, mode: usize, qpi: bool) -> bool {
-        self.flush() && self.changes(if mode < 6 { 2 } else { usize::from(qpi) })
+        self.flush() && (mode < 6 || qpi) && self.changes(if mode < 6 { 2 } else { 1 })
     }
 
     pub fn quad(&mut self, command: usize, data: usize, receives: bool) -> bool {
@@ -112,19 +135,42 @@ impl<'a> Walk<'a> {
         self.mode(0, true) && done
     }
 
-    pub fn chain(&mut self, words: &[u32]) -> bool {
+    /// A wait for START with so many polls, only the last of them ready.
+    pub fn polls(&mut self, n: usize) {
+        self.answers.extend((1..=n).map(|i| self.rng.word() & !START | if i < n { START } else { 0 }));
+        self.entries += n;
+    }
+
+    pub fn chain(&mut self, words: &[u32], bus: Bus) -> bool {
         let (mut at, mut done) = (1, true);
-        while let (true, Some(r)) = (done, words.chunks_exact(8).nth(at - 1)) {
-            let (length, second, next) = (r[2] as usize, r[4] as usize, r[7] as usize);
-            done = match r[0] {
-                1 | 2 => self.phase(length, r[0] == 2),
-                3 => self.transfer(length, second),
-                4 => self.in_place(length),
-                _ => self.delays(1),
-            };
+        while let (true, Some(r)) = (done && self.entries < LONG, words.chunks_exact(8).nth(at - 1)) {
+            done = self.record(r, bus);
+            let next = r[7] as usize;
             // A damaged chain may not go on; the walk then ends.
             at = if next > at { next } else { words.len() + 1 };
         }
         done
     }
+
+    fn record(&mut self, r: &[u32], bus: Bus) -> bool {
+        let [f1, f2, f4, f6] = [1, 2, 4, 6].map(|i| r[i] as usize);
+        match r[0] {
+            1 | 2 => self.phase(f2, r[0] == 2),
+            3 => self.transfer(f2, f4),
+            4 => self.in_place(f2),
+            6 => self.flush(),
+            7 => self.mode(f1, bus.qpi),
+            8 => self.quad(frame(f2, [bus.rate, r[3], r[4]]), f6, true),
+            9 => self.quad(f2, f6, false),
+            _ => self.delays(1),
+        }
+    }
+}
+
+/// The length of the frame of a quad read: its command's bytes and the dummies for a rate, tclqv and margin.
+pub fn frame(command: usize, [rate, tclqv, margin]: [u32; 3]) -> usize {
+    let bits = (u64::from(rate) * u64::from(tclqv)).div_ceil(1_000_000_000);
+    let sum = bits.div_ceil(8) % 256 + u64::from(margin);
+    let dummies = if bits == 0 { sum.min(8) } else { sum.clamp(1, 8) } as usize;
+    command.min(16 - dummies) + dummies
 }
