@@ -60,7 +60,7 @@ module _ (c : Chain) {limit n : ℕ} (answers log m : List ℕ) (e : n ≡ refus
   runs-transacts z b d =
       record { state = (rw b at (d .state)) ∙ rw (← e) (sym (called-runs (chainSteps (c .rate) (c .qpi) (chainOf (checked (c .highest) (length m) (c .words)))) limit answers log m z)) }
 
-never-two : (highest memory : ℕ) (ws : List ℕ) → faultNumber (checked highest memory ws) ≡ 2 → ⊥
+pub never-two : (highest memory : ℕ) (ws : List ℕ) → faultNumber (checked highest memory ws) ≡ 2 → ⊥
 never-two highest memory ws h =
     let z = found-not (checked highest memory ws) 2 (fault-numbers highest memory ws) (omega arith) h .0 in
     omega (arith, z)

@@ -3,3 +3,4 @@ pub mod Running
 pub mod Entry
 pub mod Polls
 pub mod Instances
+pub mod Never2

@@ -7,7 +7,7 @@ use lib.ListN.{length, replicate}
 use Rattle.model.specs.State.{State, begun, withNumber}
 use Rattle.model.specs.Limit.{Ended, AgainCall}
 use Rattle.records.specs.Check.{checked}
-use Rattle.chain.specs.Transaction.{Chain, refusal, outcome}
+use Rattle.chain.specs.Transaction.{Chain, refusal, outcome, transaction}
 
 abbrev pub ChainAgain : Type 0
 ChainAgain =
@@ -19,6 +19,10 @@ abbrev pub ChainRefused : Type 0
 ChainRefused =
     (c : Chain) (limit : ℕ) (answers log m : List ℕ) → let n = refusal limit (checked (c .highest) (length m) (c .words)) in
     (n ≡ 0 → ⊥) → outcome c limit answers log m ≡ withNumber n (begun log m)
+
+-- A transaction never gives 2: kinds 1 to 5 set no mode.
+abbrev pub TransactionNever2 : Type 0
+TransactionNever2 = (words : List ℕ) (limit : ℕ) (answers log m : List ℕ) → outcome (transaction words) limit answers log m .number ≡ 2 → ⊥
 
 -- a chain of one flush, whose first poll is unready
 abbrev pub flushed : ℕ → State

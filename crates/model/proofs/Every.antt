@@ -19,12 +19,12 @@ module _
     (ten : (ws m : List ℕ) → P 0 ws m (stop 10 0 ws m))
     (eleven : (r : ℕ) (m : List ℕ) → P (suc r) [] m (stop 11 (suc r) [] m))
     (past : (e : Event) (r : ℕ) (ws m : List ℕ) (o : Outcome) → P r ws (receive m e) o → P (suc r) (answerOf e ++ ws) m (after e o)) where
-  on-entered : (a : Act) (r : ℕ) (ws m : List ℕ) (k : ℕ → Outcome) → ((r' : ℕ) → P r' ws m (k r')) → P r ws m (entered (did a) r ws m k)
+  pub on-entered : (a : Act) (r : ℕ) (ws m : List ℕ) (k : ℕ → Outcome) → ((r' : ℕ) → P r' ws m (k r')) → P r ws m (entered (did a) r ws m k)
   unfolding entered receive answerOf
   on-entered a zero ws m k h = ten ws m
   on-entered a (suc r) ws m k h = past (did a) r ws m (k r) (h r)
 
-  on-answered : (e : ℕ → Event) (r : ℕ) (ws m : List ℕ) (k : ℕ → ℕ → List ℕ → Outcome) → ((x : ℕ) → answerOf (e x) ≡ x ∷ [])
+  pub on-answered : (e : ℕ → Event) (r : ℕ) (ws m : List ℕ) (k : ℕ → ℕ → List ℕ → Outcome) → ((x : ℕ) → answerOf (e x) ≡ x ∷ [])
       → ((x r' : ℕ) (l : List ℕ) → P r' l (receive m (e x)) (k x r' l)) → P r ws m (answered e r ws m k)
   unfolding answered
   on-answered e zero ws m k t h = ten ws m
@@ -35,7 +35,7 @@ module _
   on-cond true r ws m o o' h h' = h
   on-cond false r ws m o o' h h' = h'
 
-  on-poll : (c : Cause) (m : List ℕ) (k : ℕ → ℕ → List ℕ → Outcome) (u : ℕ → List ℕ → Outcome)
+  pub on-poll : (c : Cause) (m : List ℕ) (k : ℕ → ℕ → List ℕ → Outcome) (u : ℕ → List ℕ → Outcome)
       → ((x r : ℕ) (l : List ℕ) → P r l m (k x r l)) → ((r : ℕ) (l : List ℕ) → P r l m (u r l))
       → (left n r : ℕ) (ws : List ℕ) → P r ws m (poll c k u left n r ws m)
   unfolding poll answerOf receive

@@ -15,3 +15,4 @@ pub mod Kept
 pub mod Positions
 pub mod Polls
 pub mod Settled
+pub mod Supported

@@ -12,3 +12,4 @@ pub mod Polls
 pub mod Order
 pub mod Frame
 pub mod Settled
+pub mod Supported

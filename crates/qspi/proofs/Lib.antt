@@ -3,3 +3,4 @@ pub mod Paced
 pub mod Bytes
 pub mod Bounds
 pub mod Windows
+pub mod Supported

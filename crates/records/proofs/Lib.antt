@@ -2,3 +2,4 @@ pub mod KindLaws
 pub mod WalkLaws
 pub mod Lengths
 pub mod Settled
+pub mod Known
