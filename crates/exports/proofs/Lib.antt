@@ -1,3 +1,2 @@
-pub mod Rates
 pub mod Counts
 pub mod Opens

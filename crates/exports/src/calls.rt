@@ -1,32 +1,9 @@
 // The calls of the bus. Each gives its number and writes its four counts: entries made, answers taken, polls, longest.
-ghost use mathlib.Core.Path.{_≡_};
 ghost use Rattle.bus.specs.Calls.{Call};
 ghost use Rattle.config.specs.Config.{workModeOf};
-ghost use Rattle.exports.specs.Calls.{Told, Gives, GivesOn};
-ghost use Rattle.exports.specs.Modes.{noMode, CalledMode, GivesMode};
+ghost use Rattle.exports.specs.Calls.{Gives, GivesOn, GivesMode};
 ghost use lib.ListN.{length};
-use access::Progress;
-use config::WorkMode;
-use config::WorkModeFound;
-use config::number;
-
-// Writes the counts and gives the number.
-pub fn tell(
-    p: Progress,
-    entries: &mut usize,
-    taken: &mut usize,
-    polls: &mut usize,
-    longest: &mut u32,
-) -> u32
-    ensures { λ r. ⌜ Told p r (now (entries .exit)) (now (taken .exit)) (now (polls .exit)) (now (longest .exit)) ⌝ }
-{
-    let tally = p.tally;
-    *entries = p.entries;
-    *taken = p.taken;
-    *polls = tally.polls;
-    *longest = tally.longest;
-    p.number
-}
+use counts::tell;
 
 // Writes all the bytes on a single line.
 #[no_mangle]
@@ -159,30 +136,6 @@ pub extern "C" fn qspi_write_quad(
     tell(p, entries, taken, polls, longest)
 }
 
-// The work mode of a number, 0 to 6; 8 for another, after 7.
-fn set_numbered_mode(limit: u32, qpi: bool, log: &mut [u32], answers: &[u32], mode: u32) -> Progress
-    ensures { λ r. ⌜ CalledMode (workModeOf mode) qpi limit (now (answers .entry)) (now (log .entry)) r (now (log .exit)) ⌝ }
-{
-    let found = WorkMode::from_number(mode);
-    match found {
-        WorkModeFound::Mode(known) => {
-            bus::work_mode::set_work_mode(limit, qpi, log, answers, known)
-        }
-        WorkModeFound::Unknown => Progress::new().ended(no_mode(limit)),
-    }
-}
-
-// What a number that is no mode is refused as.
-fn no_mode(limit: u32) -> u32
-    ensures { λ r. ⌜ r ≡ noMode limit ⌝ }
-{
-    if limit == 0 {
-        number::LIMIT
-    } else {
-        number::CHAIN
-    }
-}
-
 // Changes the work mode, by its number. `qpi`: the chip has QPI.
 #[no_mangle]
 pub extern "C" fn qspi_set_work_mode(
@@ -198,6 +151,6 @@ pub extern "C" fn qspi_set_work_mode(
 ) -> u32
     ensures { λ r. ⌜ GivesMode (workModeOf mode) qpi limit (now (answers .entry)) (now (log .entry)) (now (log .exit)) r (now (entries .exit)) (now (taken .exit)) (now (polls .exit)) (now (longest .exit)) ⌝ }
 {
-    let p = set_numbered_mode(limit, qpi, log, answers, mode);
+    let p = numbered::set_numbered_mode(limit, qpi, log, answers, mode);
     tell(p, entries, taken, polls, longest)
 }

@@ -1,6 +1,6 @@
 // The library to link: functions on numbers and slices, with C names. None asks anything of its caller.
 ghost use mathlib.Core.Path.{_≡_};
-ghost use Rattle.exports.specs.Limit.{defaultLimit};
+ghost use Rattle.config_numbers.specs.Limit.{defaultLimit};
 
 pub mod calls;
 pub mod clocks;
@@ -13,5 +13,5 @@ pub mod transaction;
 pub extern "C" fn qspi_default_limit() -> u32
     ensures { λ r. ⌜ r ≡ defaultLimit ⌝ }
 {
-    100_000
+    config_numbers::default_limit()
 }

@@ -1,6 +1,6 @@
 // Sheets.
 ghost use Rattle.exports.specs.Sheets.{GivesSheet};
-use super::calls;
+use counts::tell;
 
 // Runs the sheet that the bytes are, on the memory at their end; any other bytes are refused as 13.
 #[no_mangle]
@@ -15,5 +15,5 @@ pub extern "C" fn qspi_sheet(
     ensures { λ r. ⌜ GivesSheet (now (bytes .entry)) (now (log .entry)) (now (log .exit)) (now (bytes .exit)) r (now (entries .exit)) (now (taken .exit)) (now (polls .exit)) (now (longest .exit)) ⌝ }
 {
     let p = sheet_run::run(bytes, log);
-    calls::tell(p, entries, taken, polls, longest)
+    tell(p, entries, taken, polls, longest)
 }

@@ -1,7 +1,7 @@
 // Transactions.
 ghost use Rattle.chain.specs.Transaction.{transaction};
 ghost use Rattle.exports.specs.Transactions.{GivesChain};
-use super::calls;
+use counts::tell;
 
 // Operations on the lent memory: records of eight words, kinds 1 to 5, checked along the chain before any access.
 #[no_mangle]
@@ -19,5 +19,5 @@ pub extern "C" fn qspi_transaction(
     ensures { λ r. ⌜ GivesChain (transaction (now (words .entry))) limit (now (answers .entry)) (now (log .entry)) (now (memory .entry)) (now (log .exit)) (now (memory .exit)) r (now (entries .exit)) (now (taken .exit)) (now (polls .exit)) (now (longest .exit)) ⌝ }
 {
     let p = chain::transaction(limit, log, answers, memory, words);
-    calls::tell(p, entries, taken, polls, longest)
+    tell(p, entries, taken, polls, longest)
 }

@@ -1,6 +1,6 @@
 use mathlib.Core.Path.{_∙_, ap}
 use borrow.Author.Needs.{needs}
-use Rattle.exports.specs.Clocks.{kindOf, countOf}
+use Rattle.clock_numbers.specs.Dividers.{kindOf, countOf}
 use Rattle.exports.proofs.clocks.qspi_select_clock.Statement.{statement}
 use Rattle.exports.proofs.clocks.qspi_select_clock.Tie as tie
 

@@ -1,4 +1,4 @@
-use Rattle.exports.proofs.Opens.{release-gives}
+use Rattle.exports.proofs.Counts.{release-gives}
 use borrow.Author.Needs.{needs}
 use Rattle.exports.proofs.open.qspi_free.Statement.{statement}
 use Rattle.exports.proofs.open.qspi_free.Tie as tie

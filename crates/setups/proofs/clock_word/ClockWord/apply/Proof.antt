@@ -39,16 +39,22 @@ enable-module-reset-requires-2 : tie.Need-enable-module-reset-requires-2
 enable-module-reset-requires-2 c κs = search needs
 
 returns : tie.Need-returns
-returns c = rw (c .before .before .before .before .self .given .1) (cc)
+returns c =
+    let clocked = c .before in
+    let divided = clocked .before in
+    rw (divided .before .before .self .given .1, c .enable-bus-clk .ensures, clocked .enable-module-clk .ensures, divided .set-module-clk-div .ensures)
 
 returns-2 : tie.Need-returns-2
-returns-2 c = rw (c .before .enum-told .given .1) (cc)
+returns-2 c = rw (c .before .enum-told .given .1, c .enable-module-reset .ensures)
 
 returns-3 : tie.Need-returns-3
-returns-3 c = rw (c .before .enum-told2 .given .1) (cc)
+returns-3 c = rw (c .before .enum-told2 .given .1, c .disable-module-reset .ensures)
 
 returns-4 : tie.Need-returns-4
-returns-4 c = rw (c .before .before .before .enum-told3 .given .1) (cc)
+returns-4 c =
+    let stopped = c .before in
+    let off = stopped .before in
+    rw (off .before .enum-told3 .given .1, c .enable-module-reset2 .ensures, stopped .disable-bus-clk .ensures, off .disable-module-clk .ensures)
 
 pub apply-spec : {M : Type 1} → statement M
 apply-spec =

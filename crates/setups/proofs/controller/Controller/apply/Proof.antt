@@ -69,22 +69,46 @@ clear-all-int-requires : tie.Need-clear-all-int-requires
 clear-all-int-requires c κs = search needs
 
 returns : tie.Need-returns
-returns c = rw (c .before .enum-told .given .1) (cc)
+returns c = rw (c .before .enum-told .given .1, c .set-ctrl-rst .ensures)
 
 returns-2 : tie.Need-returns-2
-returns-2 c = rw (c .before .before .before .self .given .1) (cc)
+returns-2 c =
+    let selected = c .before in
+    rw (selected .before .before .self .given .1, c .set-clk-div-1 .ensures, selected .set-clock-divider-selection .ensures)
 
 returns-3 : tie.Need-returns-3
-returns-3 c = rw (c .before .before .before .self2 .given .1) (cc)
+returns-3 c =
+    let selected = c .before in
+    rw (selected .before .before .self2 .given .1, c .set-clk-div-2 .ensures, selected .set-clock-divider-selection2 .ensures)
 
 returns-4 : tie.Need-returns-4
-returns-4 c = rw (c .before .before .before .before .before .self3 .given .1) (cc)
+returns-4 c =
+    let enabled = c .before in
+    let released = enabled .before in
+    let moded = released .before in
+    rw (
+      moded .before .before .self3 .given .1,
+      c .enable-rx-full-stop .ensures,
+      enabled .enable-ctrl .ensures,
+      released .set-ctrl-rst2 .ensures,
+      moded .set-ctrl-mode .ensures,
+    )
 
 returns-5 : tie.Need-returns-5
 returns-5 c = search needs
 
 returns-6 : tie.Need-returns-6
-returns-6 c = rw (c .before .before .before .before .enum-told3 .given .1) (cc)
+returns-6 c =
+    let sends = c .before in
+    let received = sends .before in
+    let sent = received .before in
+    rw (
+      sent .before .enum-told3 .given .1,
+      c .set-rx-fifo-water-mark .ensures,
+      sends .set-tx-fifo-water-mark .ensures,
+      received .reset-rx-fifo .ensures,
+      sent .reset-tx-fifo .ensures,
+    )
 
 returns-7 : tie.Need-returns-7
 returns-7 c = search needs

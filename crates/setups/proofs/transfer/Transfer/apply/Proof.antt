@@ -78,31 +78,68 @@ enable-qpi-requires : tie.Need-enable-qpi-requires
 enable-qpi-requires c κs = search needs
 
 returns : tie.Need-returns
-returns c = rw (c .before .before .before .before .before .before .before .before .self .given .1, c .before .if1 .taken) (cc)
+returns c =
+    let delayed = c .before .before in
+    let selected = delayed .before in
+    let idle = selected .before in
+    let phased = idle .before in
+    let discards = phased .before in
+    rw (
+      discards .before .before .self .given .1,
+      c .before .if1 .taken,
+      c .enable-lsb-transmit .ensures,
+      delayed .enable-tx-data-delay .ensures,
+      selected .set-cs-ctrl-mode .ensures,
+      idle .set-clk-pol .ensures,
+      phased .set-clk-pha .ensures,
+      discards .enable-discard-invalid-data .ensures,
+    )
 
 returns-2 : tie.Need-returns-2
-returns-2 c = rw (c .before .before .before .before .before .before .before .before .self .given .1, c .before .if1 .left) (cc)
+returns-2 c =
+    let delayed = c .before .before in
+    let selected = delayed .before in
+    let idle = selected .before in
+    let phased = idle .before in
+    let discards = phased .before in
+    rw (
+      discards .before .before .self .given .1,
+      c .before .if1 .left,
+      c .disable-lsb-transmit .ensures,
+      delayed .enable-tx-data-delay .ensures,
+      selected .set-cs-ctrl-mode .ensures,
+      idle .set-clk-pol .ensures,
+      phased .set-clk-pha .ensures,
+      discards .enable-discard-invalid-data .ensures,
+    )
 
 returns-3 : tie.Need-returns-3
-returns-3 c = rw (c .before .before .before .before .self2 .given .1) (cc)
+returns-3 c =
+    let leveled = c .before in
+    let idle = leveled .before in
+    rw (idle .before .before .self2 .given .1, c .set-cs-pin-num .ensures, leveled .set-cs-level .ensures, idle .set-cs-pol .ensures)
 
 returns-4 : tie.Need-returns-4
-returns-4 c = rw (c .before .before .before .before .self3 .given .1, c .before .before .if2 .taken) (cc)
+returns-4 c =
+    let test = c .before .before in
+    rw (test .before .before .self3 .given .1, test .if2 .taken, c .disable-rx-inner-delay .ensures, c .before .disable-rx-data-delay .ensures)
 
 returns-5 : tie.Need-returns-5
-returns-5 c = rw (c .before .before .before .before .self3 .given .1, c .before .before .if2 .left) (cc)
+returns-5 c =
+    let test = c .before .before in
+    rw (test .before .before .self3 .given .1, test .if2 .left, c .disable-rx-inner-delay2 .ensures, c .before .enable-rx-data-delay .ensures)
 
 returns-6 : tie.Need-returns-6
-returns-6 c = rw (c .before .before .self4 .given .1) (cc)
+returns-6 c = rw (c .before .before .self4 .given .1, c .set-bus-mode .ensures)
 
 returns-7 : tie.Need-returns-7
-returns-7 c = rw (c .before .enum-told .given .1) (cc)
+returns-7 c = rw (c .before .enum-told .given .1, c .enable-dual .ensures)
 
 returns-8 : tie.Need-returns-8
-returns-8 c = rw (c .before .enum-told2 .given .1) (cc)
+returns-8 c = rw (c .before .enum-told2 .given .1, c .enable-quad .ensures)
 
 returns-9 : tie.Need-returns-9
-returns-9 c = rw (c .before .enum-told3 .given .1) (cc)
+returns-9 c = rw (c .before .enum-told3 .given .1, c .enable-qpi .ensures)
 
 pub apply-spec : {M : Type 1} → statement M
 apply-spec =
