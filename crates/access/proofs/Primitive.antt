@@ -5,7 +5,7 @@ use mathlib.Core.List.{List}
 use Prim.Native.Nat.{ℕ, _+_, _*_, _/_, _≤_, _<_}
 use native.Mathlib.Omega.{arith}
 use native.Mathlib.Nat.{add-zero}
-use lib.ListN.{length, getD, set}
+use lib.ListN.{length, set}
 use Rattle.model.specs.Event as event
 use Rattle.model.specs.Event.{actHead, actValue, askHead, said, headOf, valueOf, answerOf, receive}
 use Rattle.model.specs.Event.Event.{heard}

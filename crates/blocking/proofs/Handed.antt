@@ -9,7 +9,7 @@ use Rattle.access.specs.Of.{stateOf}
 use Rattle.opening.specs.declared.Opened as opening
 use Rattle.opening.specs.Call.{Opening, Opens, rateOf, opens}
 use Rattle.blocking.specs.declared.Opened.the-variants.{Open, Shut}
-use Rattle.blocking.specs.Opened.{busOf, News}
+use Rattle.blocking.specs.Opened.{News}
 
 module _ {o : Opening} {limit : ℕ} {answers log log' : List ℕ} {r : opening.Opened} (d : Opens o limit answers log r log') where
   -- the rate that an opening gives

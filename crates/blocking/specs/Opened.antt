@@ -1,10 +1,9 @@
 -- The bus that an opening hands back.
 use mathlib.Core.Path.{_≡_}
-use mathlib.Core.Bool.{Bool, cond}
+use mathlib.Core.Bool.{cond}
 use mathlib.Core.List.{List}
 use Prim.Native.Nat.{ℕ}
 use lib.Dec.{eqb}
-use Rattle.config.specs.declared.config.QspiConfig.{QspiConfig}
 use Rattle.access.specs.declared.progress.Progress.{Progress}
 use Rattle.access.specs.Of.{stateOf}
 use Rattle.opening.specs.Call.{Opening, Result, rateOf, opens}

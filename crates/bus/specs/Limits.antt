@@ -1,7 +1,6 @@
 -- Demand 3 for each call as its user sees it: all its parameters fixed but the limit and the answers.
 use mathlib.Core.List.{List, _++_}
 use Prim.Native.Nat.{ℕ, _<_}
-use Rattle.model.specs.State.{State}
 use Rattle.model.specs.Limit.{Ended, AgainCall}
 use Rattle.bus.specs.Calls.{Call, outcome}
 

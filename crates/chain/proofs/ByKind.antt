@@ -1,12 +1,11 @@
 -- The steps of a record, by its kind.
-use mathlib.Core.Path.{_≡_, refl, sym, _∙_}
+use mathlib.Core.Path.{_≡_, refl}
 use mathlib.Core.Bool.{Bool, true, false, _||_}
 use mathlib.Core.List.{List}
 use Prim.Native.Nat.{ℕ, zero, suc, _≤_}
 use lib.Dec.{ltb}
 use lib.ListN.{getD}
 use borrow.Author.Tests.{ltb-false}
-use Rattle.model.specs.Steps.{Steps}
 use Rattle.model.specs.Steps.End.{done}
 use Rattle.model.specs.Steps.Steps.{end}
 use Rattle.access.specs.declared.progress.Progress.{Progress}

@@ -1,13 +1,13 @@
 -- Kinds 1 to 5 never end unsupported, so a transaction gives no 2.
-use mathlib.Core.Path.{_≡_, refl, _∙_}
+use mathlib.Core.Path.{_≡_, refl}
 use mathlib.Core.Bool.{Bool, true, false, _&&_}
 use mathlib.Core.List.{List, [], _∷_}
-use Prim.Native.Nat.{ℕ, zero, suc, _-_, _+_, _≤_, min}
+use Prim.Native.Nat.{ℕ, zero, suc, _-_, _≤_, min}
 use native.Mathlib.Omega.{arith}
 use lib.Dec.{leb, eqb}
 use lib.ListN.{length, getD, take, drop}
 use borrow.Author.Tests.{eqb-true, eqb-false, leb-true}
-use Rattle.model.specs.Steps.{Steps, then}
+use Rattle.model.specs.Steps.{Steps}
 use Rattle.model.specs.Steps.End.{done}
 use Rattle.model.specs.Steps.Steps.{end}
 use Rattle.model.specs.Run.{run}
@@ -23,7 +23,7 @@ use Rattle.records.specs.Check.{field, known, checked, chainOf}
 use Rattle.records.specs.Laws.{Each}
 use Rattle.records.proofs.Known.{kinds-known}
 use Rattle.chain.specs.Chain.{kindSteps, recordSteps, chainSteps}
-use Rattle.chain.specs.Transaction.{faultNumber, refusal, outcome, transaction}
+use Rattle.chain.specs.Transaction.{faultNumber, refusal, outcome}
 use Rattle.chain.specs.Laws.{TransactionNever2}
 use Rattle.chain.proofs.Entry.{never-two}
 

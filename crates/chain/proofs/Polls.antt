@@ -1,11 +1,11 @@
 -- The bound on polls of each write and read on a chain, from the bounds of the phases.
-use mathlib.Core.Path.{_≡_, refl, sym, ap, _∙_}
+use mathlib.Core.Path.{_≡_, sym, ap, _∙_}
 use mathlib.Core.Bool.{Bool, true}
 use mathlib.Core.List.{List, [], _∷_, _++_}
 use Prim.Native.Nat.{ℕ, _+_, _*_, _≤_}
 use native.Mathlib.Omega.{arith}
 use native.Mathlib.Nat.{mul-le-mul-left, mul-add}
-use lib.ListN.{length, take, drop, length-take}
+use lib.ListN.{length, drop, length-take}
 use Rattle.model.specs.State.{State, begun, advance}
 use Rattle.model.proofs.Advance.{advance-then, ended}
 use Rattle.model.proofs.Next.{look-next}

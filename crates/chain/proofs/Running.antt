@@ -7,7 +7,6 @@ use native.Mathlib.Omega.{arith}
 use lib.Dec.{eqb}
 use lib.ListN.{length}
 use borrow.Author.Tests.{eqb-true}
-use Rattle.model.specs.Steps.{then}
 use Rattle.model.specs.State.{advance}
 use Rattle.model.proofs.Advance.{onto, ended, skipped}
 use Rattle.access.specs.declared.progress.Progress.{Progress}

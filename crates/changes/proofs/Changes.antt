@@ -4,7 +4,7 @@ use mathlib.Core.List.{List}
 use Prim.Native.Nat.{ℕ}
 use Rattle.model.specs.Event.Act.{write}
 use Rattle.model.specs.Event.Ask.{register}
-use Rattle.model.specs.Steps.{Steps, change}
+use Rattle.model.specs.Steps.{change}
 use Rattle.model.specs.Steps.End.{done}
 use Rattle.model.specs.Steps.Steps.{end, act}
 use Rattle.model.specs.State.{advance}

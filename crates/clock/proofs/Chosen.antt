@@ -8,9 +8,8 @@ use borrow.Author.Tests.{le-leb, leb-true}
 use native.Mathlib.Decide.{decLt, decLe}
 use native.Mathlib.Nat.{le-antisymm, le-trans, lt-of-le-of-lt, div-le-self}
 use native.Mathlib.Omega.{arith}
-use Rattle.clock.specs.declared.Choice.{Choice}
 use Rattle.clock.specs.Candidate.{candidate, moduleClock, inRange, factorAt, rate, Eligible}
-use Rattle.clock.specs.Choose.{apart, distance, IsChoice, fallback, NoneEligible, Chosen}
+use Rattle.clock.specs.Choose.{apart, IsChoice, fallback, NoneEligible}
 use Rattle.clock.specs.Rank.{cost, far, rank, lowest, chosen, choice}
 use Rattle.clock.specs.Laws.{ChoiceRight, OnlyOne, Nearest, NotAboveAmongEquals, FirstAmongThose, NoneEligibleFallsBack}
 use Rattle.clock.proofs.Lowest.{lowest-most}

@@ -7,7 +7,7 @@ use native.Mathlib.Decide.{decLt, decLe}
 use native.Mathlib.Nat.{add-suc, le-trans, le-div-iff-mul-le, mul-le-mul-left, div-mul-le-self}
 use native.Mathlib.Numerals.{add-one}
 use native.Mathlib.Omega.{arith}
-use Rattle.clock.specs.Candidate.{moduleClock, inRange, factorAt, rate}
+use Rattle.clock.specs.Candidate.{moduleClock, inRange, factorAt}
 use Rattle.clock.specs.Skip.{kindEnd, nextPlace}
 use Rattle.clock.specs.Rank.{cost, far, rank, lowest}
 use Rattle.clock.proofs.Places.{factor-pos, factor-rises, kind-ends}

@@ -1,7 +1,7 @@
 -- The candidates by index are those of document 01 in scan order, each with its rate; and the PLL rates at which none is eligible.
 use mathlib.Core.Bool.{Bool, true, false}
 use mathlib.Core.Path.{_≡_, refl, ap}
-use Prim.Native.Nat.{ℕ, _+_, _*_, _/_, _%_, _^_, _≤_, _<_}
+use Prim.Native.Nat.{ℕ, _+_, _*_, _/_, _%_, _≤_, _<_}
 use lib.Arith.{digits-div, digits-mod}
 use lib.Dec.{ltb}
 use borrow.Author.Tests.{le-ltb, ltb-true}
@@ -11,9 +11,8 @@ use Rattle.clock.specs.declared.DividerSelect.the-variants.{Cdr1, Cdr2}
 use Rattle.clock.specs.declared.Sck.{Sck}
 use Rattle.clock.specs.declared.Sck.the-variants.{Rate, NoDivider}
 use Rattle.clock.specs.Answer.{Answer, answer, tooLarge, sck}
-use Rattle.clock.specs.Candidate.{dividerAt, factorAt, candidate, moduleClock, rate}
-use Rattle.clock.specs.Choose.{fallback, NoneEligible}
-use Rattle.clock.specs.Rank.{choice}
+use Rattle.clock.specs.Candidate.{dividerAt, factorAt, candidate, rate}
+use Rattle.clock.specs.Choose.{NoneEligible}
 use Rattle.clock.specs.Laws.{NoClock, BeyondAnyClock, HypothesesMet}
 use Rattle.clock.proofs.Chosen.{none-eligible}
 use Rattle.clock.proofs.Places.{cdr1-at, cdr2-at}

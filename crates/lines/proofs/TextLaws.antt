@@ -178,7 +178,3 @@ printed-most log e =
       length-take (2 * e .entries) log,
       end-most e,
     )
-
--- so 65,536 + 128 bytes hold whatever is printed of a log of 4,096 entries
-pub buffer-enough : (log : List ℕ) (e : Progress) → e .entries ≤ 4096 → length (printed log e) ≤ 65536 + 128
-buffer-enough log e h = omega (arith, printed-most log e)

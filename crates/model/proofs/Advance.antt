@@ -4,7 +4,7 @@ use mathlib.Core.Bool.{Bool, true, false, cond}
 use mathlib.Core.List.{List, _++_}
 use Prim.Native.Nat.{ℕ, _+_}
 use native.Mathlib.Omega.{arith}
-use native.Mathlib.Nat.{add-zero, add-assoc, zero-max}
+use native.Mathlib.Nat.{add-zero, add-assoc}
 use lib.Dec.{eqb}
 use lib.ListN.{length, drop, length-append}
 use lib.Seq.{drop-drop, drop-append-seam}
@@ -17,7 +17,7 @@ use Rattle.model.specs.Steps.Steps.{end}
 use Rattle.model.specs.Run.{Outcome, stop, run}
 use Rattle.model.specs.State.{State, begun, withNumber, roomOf, ran, onward, advance}
 use Rattle.model.specs.Order.{ThenAdvances}
-use Rattle.model.specs.Limit.{Ended, Again, AgainCall, AnotherLimitCall}
+use Rattle.model.specs.Limit.{Again, AgainCall, AnotherLimitCall}
 use Rattle.model.proofs.Trace.{plus-assoc, plus-none, none-plus, tally-append, answers-append, stored-append, length-stored}
 use Rattle.model.proofs.Ends.{Leaves, leaves}
 use Rattle.model.proofs.Then.{Runs, joined, followed, run-then}

@@ -9,7 +9,7 @@ use lib.Dec.{eqb}
 use borrow.Author.Tests.{ne-eqb, eqb-true, eqb-false}
 use Rattle.model.specs.Steps.{Steps}
 use Rattle.model.specs.State.{begun, withNumber, roomOf, ran, advance, limitFirst, called}
-use Rattle.model.specs.Limit.{Ended, AgainCall, AnotherLimitCalled, AnotherLimitFirst}
+use Rattle.model.specs.Limit.{AgainCall, AnotherLimitCalled, AnotherLimitFirst}
 use Rattle.model.specs.Run.{run}
 use Rattle.model.specs.Ends.{Met}
 use Rattle.model.proofs.Advance.{starts, another-limit-call}

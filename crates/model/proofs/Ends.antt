@@ -7,7 +7,7 @@ use Prim.Native.Nat.{ℕ, zero, suc, _+_, _≤_, _<_, max}
 use native.Mathlib.Omega.{arith}
 use native.Mathlib.Nat.{add-zero}
 use lib.ListN.{length, length-set}
-use Rattle.model.specs.Wait.{Cause, countOf, ready}
+use Rattle.model.specs.Wait.{Cause, ready}
 use Rattle.model.specs.Event.{Event, answerOf, answersOf, receive, received}
 use Rattle.model.specs.Event.Event.{did, heard, got, polled}
 use Rattle.model.specs.Tally.{plus, pollTally, tallyEvent, tallyOf, longestOf}
@@ -15,7 +15,7 @@ use Rattle.model.specs.Steps.{End, Steps, numberOf}
 use Rattle.model.specs.Steps.End.{done, unsupported}
 use Rattle.model.specs.Steps.Steps.{end, act, ask, get, look, wait}
 use Rattle.model.specs.Run.{Outcome, stop, after, entered, answered, poll, run}
-use Rattle.model.specs.Ends.{Met, Ends, EveryRunEnds}
+use Rattle.model.specs.Ends.{Met, EveryRunEnds}
 use Rattle.model.proofs.Trace.{polls-entries}
 use Rattle.model.proofs.Every.{every}
 

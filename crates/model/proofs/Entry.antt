@@ -1,5 +1,5 @@
 -- One entry as a caller makes it: refused by 10 or 11, or noted, with what follows it.
-use mathlib.Core.Path.{_≡_, refl, ap, sym, _∙_}
+use mathlib.Core.Path.{_≡_, refl, ap, _∙_}
 use mathlib.Core.List.{List, [], _∷_}
 use Prim.Native.Nat.{ℕ, suc, pred, _+_, _*_, _/_, _≤_, _<_}
 use native.Mathlib.Omega.{arith}
@@ -13,7 +13,7 @@ use Rattle.model.specs.Tally.{plus, tallyEvent, tallyOf}
 use Rattle.model.specs.Steps.{Steps}
 use Rattle.model.specs.Steps.Steps.{act}
 use Rattle.model.specs.Run.{Outcome, after, entered, answered, run}
-use Rattle.model.specs.State.{State, withNumber, withMemory, roomOf, ran, onward, advance}
+use Rattle.model.specs.State.{State, withNumber, roomOf, ran, onward, advance}
 use Rattle.model.proofs.Trace.{plus-assoc, stored-entry}
 use Rattle.model.proofs.Then.{Runs}
 use Rattle.model.proofs.Advance.{starts, stopped}

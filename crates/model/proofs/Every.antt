@@ -7,7 +7,7 @@ use Prim.Native.Nat.{ℕ, zero, suc}
 use native.Mathlib.Omega.{arith}
 use Rattle.model.specs.Wait.{Cause, ready}
 use Rattle.model.specs.Event.{Act, Event, answerOf, receive}
-use Rattle.model.specs.Event.Event.{did, heard, got, polled}
+use Rattle.model.specs.Event.Event.{did, polled}
 use Rattle.model.specs.Steps.{End, Steps, numberOf}
 use Rattle.model.specs.Steps.Steps.{end, act, ask, get, look, wait}
 use Rattle.model.specs.Run.{Outcome, stop, after, entered, answered, poll, run}

@@ -1,8 +1,8 @@
 -- Steps that follow whatever the first ended with.
-use mathlib.Core.Path.{_≡_, refl, ap, sym, _∙_}
+use mathlib.Core.Path.{_≡_, refl, ap, _∙_}
 use mathlib.Core.Bool.{Bool, true, false, cond}
 use mathlib.Core.List.{List, [], _++_}
-use mathlib.Core.Logic.{_⊎_, inl, inr, ⊎-elim}
+use mathlib.Core.Logic.{_⊎_, inl, ⊎-elim}
 use Prim.Native.Nat.{ℕ, zero, suc, _+_, _<_}
 use native.Mathlib.Omega.{arith}
 use lib.Dec.{eqb}
@@ -17,7 +17,7 @@ use Rattle.model.specs.Run.{Outcome, stop, after, answered, poll, run}
 use Rattle.model.specs.State.{State, withNumber, standing, roomOf, ran, advance}
 use Rattle.model.specs.Limit.{Ended}
 use Rattle.model.specs.Order.{Plain, BeginsWithRead, TimeoutStands, StopsAtOnce, TriesOn}
-use Rattle.model.proofs.Every.{not-ten, not-eleven, late-never}
+use Rattle.model.proofs.Every.{late-never}
 use Rattle.model.proofs.Carries.{Carries, entered-carries, answered-carries, poll-carries}
 use Rattle.model.proofs.Ends.{Leaves, leaves}
 use Rattle.model.proofs.Then.{Runs}

@@ -1,5 +1,5 @@
 -- Steps on a part of the memory run as on the whole.
-use mathlib.Core.Path.{_≡_, refl, ap, ap₂, sym, _∙_}
+use mathlib.Core.Path.{_≡_, refl, ap, ap₂, _∙_}
 use mathlib.Core.Bool.{Bool, true, false, cond}
 use mathlib.Core.List.{List, [], _∷_, _++_, map}
 use Prim.Native.Nat.{ℕ, _+_, _<_}
@@ -13,7 +13,6 @@ use Rattle.model.specs.Event.Event.{did, heard, got, polled}
 use Rattle.model.specs.Tally.{plus, tallyEvent, tallyOf}
 use Rattle.model.specs.Steps.{Steps, then, finally}
 use Rattle.model.specs.Steps.End.{done, unsupported}
-use Rattle.model.specs.Steps.Steps.{end, act, ask, get, look, wait}
 use Rattle.model.specs.Run.{Outcome, after, run}
 use Rattle.model.specs.State.{State, withMemory, roomOf, ran, onward, advance}
 use Rattle.model.specs.Frame.{Inside, shifted, within, RunsInside, AdvancesInside}

@@ -1,14 +1,13 @@
 -- What the lent log and the lent memory keep.
-use mathlib.Core.Path.{_≡_, refl, ap, sym, _∙_}
+use mathlib.Core.Path.{_≡_, refl, _∙_}
 use mathlib.Core.Bool.{Bool, true, false, cond}
-use mathlib.Core.List.{List, [], _∷_, _++_}
-use Prim.Native.Nat.{ℕ, suc, _+_, _*_, _/_, _≤_}
+use mathlib.Core.List.{List, [], _∷_}
+use Prim.Native.Nat.{ℕ, suc, _+_, _*_, _≤_}
 use native.Mathlib.Omega.{arith}
 use lib.Dec.{eqb}
 use lib.ListN.{length, take, drop, set}
 use lib.Seq.{sets, sets-eq, take-set-le, drop-set-lt}
-use Rattle.model.specs.Event.{Event, words, stored}
-use Rattle.model.specs.Steps.{Steps}
+use Rattle.model.specs.Event.{words, stored}
 use Rattle.model.specs.Run.{Outcome, run}
 use Rattle.model.specs.State.{State, roomOf, ran, onward, advance}
 use Rattle.model.specs.Ends.{Ends, LogWords, Kept, EveryAdvanceKeeps}

@@ -16,9 +16,8 @@ use Rattle.model.specs.Steps.{Steps}
 use Rattle.model.specs.Steps.End.{done}
 use Rattle.model.specs.Steps.Steps.{end, ask, get, look, wait}
 use Rattle.model.specs.Run.{Outcome, stop, answered, poll, run}
-use Rattle.model.specs.State.{State, withNumber, withMemory, ran, onward, advance}
+use Rattle.model.specs.State.{State, withNumber, withMemory, onward, advance}
 use Rattle.model.proofs.Trace.{plus-none}
-use Rattle.model.proofs.Then.{Runs}
 use Rattle.model.proofs.Advance.{skips, starts, stopped, onward-end}
 use Rattle.model.proofs.Entry.{noted, answered-full, answered-dry, answered-noted}
 

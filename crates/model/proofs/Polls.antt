@@ -15,7 +15,7 @@ use Rattle.model.specs.Steps.{Steps, then, change, waitFor}
 use Rattle.model.specs.Steps.End.{done, unsupported}
 use Rattle.model.specs.Steps.Steps.{end, act, ask, get, look, wait}
 use Rattle.model.specs.Run.{Outcome, entered, answered, poll, run}
-use Rattle.model.specs.State.{State, roomOf, ran, onward, advance}
+use Rattle.model.specs.State.{roomOf, ran, onward, advance}
 use Rattle.model.specs.Polls.{AtMost, PollBound, PollBoundCall}
 
 -- polls that an outcome holds

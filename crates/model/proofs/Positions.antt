@@ -1,5 +1,5 @@
 -- The positions that polls carry are right, in every run.
-use mathlib.Core.Path.{_≡_, refl, sym, _∙_}
+use mathlib.Core.Path.{_≡_, refl, _∙_}
 use mathlib.Core.Bool.{Bool, true, false, cond}
 use mathlib.Core.List.{List, [], _∷_}
 use Prim.Native.Nat.{ℕ, zero, suc, _+_}
@@ -11,8 +11,8 @@ use Rattle.model.specs.Event.{Event}
 use Rattle.model.specs.Event.Event.{did, heard, got, polled}
 use Rattle.model.specs.Steps.{Steps}
 use Rattle.model.specs.Steps.Steps.{end, act, ask, get, look, wait}
-use Rattle.model.specs.Run.{Outcome, after, entered, answered, poll, run}
-use Rattle.model.specs.Positions.{Due, due, Fits, Positions, EveryRunCounts}
+use Rattle.model.specs.Run.{Outcome, entered, answered, poll, run}
+use Rattle.model.specs.Positions.{due, Fits, Positions, EveryRunCounts}
 use Rattle.model.specs.Positions.Due.{free, again}
 
 module _ (limit : ℕ) where

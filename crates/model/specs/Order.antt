@@ -4,7 +4,7 @@ use mathlib.Core.Bool.{false}
 use mathlib.Core.List.{List}
 use mathlib.Core.Logic.{_⊎_}
 use Prim.Native.Nat.{ℕ, _<_}
-use Rattle.model.specs.Steps.{End, Steps, then, finally}
+use Rattle.model.specs.Steps.{Steps, then, finally}
 use Rattle.model.specs.Steps.End.{done}
 use Rattle.model.specs.Steps.Steps.{end, act, ask, get, look, wait}
 use Rattle.model.specs.Run.{run}

@@ -1,12 +1,11 @@
 -- An opening refused, and an opening and a release run from no entry and the first answer on.
-use mathlib.Core.Path.{_≡_, refl, sym, ap, _∙_}
+use mathlib.Core.Path.{_≡_, refl, sym, _∙_}
 use mathlib.Core.Bool.{Bool, true, false, cond, not, _&&_}
 use mathlib.Core.List.{List}
 use Prim.Native.Nat.{ℕ, _≤_, _<_}
 use native.Mathlib.Omega.{arith}
 use lib.Dec.{eqb, ltb}
 use borrow.Author.Tests.{ne-eqb, ltb-false}
-use Rattle.model.specs.Steps.{change}
 use Rattle.model.proofs.Called.{called-refused, called-runs}
 use Rattle.config.specs.Spi.{supported}
 use Rattle.config.specs.Config.{isQpi}

@@ -1,18 +1,16 @@
 -- Demand 3 for an opening and a release, no polls, and what a refusal leaves.
 use mathlib.Core.Path.{_≡_, refl, ap}
 use mathlib.Core.Bool.{Bool, true, false, cond, not, _&&_}
-use mathlib.Core.List.{List}
 use Prim.Native.Nat.{ℕ, _<_}
 use native.Mathlib.Omega.{arith}
 use lib.Dec.{eqb, ltb}
 use borrow.Author.Tests.{ne-eqb}
-use Rattle.model.specs.Limit.{Ended}
 use Rattle.model.proofs.Called.{called-refused, another-limit-called}
 use Rattle.config.specs.Spi.{supported}
 use Rattle.config.specs.Config.{isQpi}
 use Rattle.opening.specs.Steps.{releaseSteps}
 use Rattle.opening.specs.Call.{Opening, refusal, openingRefusal, stepsOf, rateOf, withRate, opens, releases}
-use Rattle.opening.specs.Laws.{AgainOpening, OpeningAgain, ReleaseAgain, OpeningPolls, ReleasePolls, OpeningRefused}
+use Rattle.opening.specs.Laws.{OpeningAgain, ReleaseAgain, OpeningPolls, ReleasePolls, OpeningRefused}
 use Rattle.opening.proofs.Polls.{opening-waits, release-waits, called-polls}
 
 -- the first of four tests that holds

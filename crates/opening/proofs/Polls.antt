@@ -1,11 +1,10 @@
 -- An opening and a release wait for nothing, and what waits for nothing makes no poll.
-use mathlib.Core.Path.{_≡_, refl, ap, _∙_}
+use mathlib.Core.Path.{_≡_, refl}
 use mathlib.Core.Bool.{Bool, true, false}
 use mathlib.Core.List.{List, [], _∷_}
 use Prim.Native.Nat.{ℕ, _*_, _≤_}
 use native.Mathlib.Omega.{arith}
 use lib.Dec.{eqb}
-use lib.ListN.{drop}
 use borrow.Author.Tests.{eqb-true, eqb-false}
 use Rattle.model.specs.Event.{Event}
 use Rattle.model.specs.Event.Event.{did, heard, got, polled}

@@ -1,11 +1,10 @@
 -- A phase never ends unsupported.
-use mathlib.Core.Bool.{Bool, cond}
+use mathlib.Core.Bool.{Bool}
 use mathlib.Core.List.{List, [], _∷_, map}
 use Prim.Native.Nat.{ℕ, zero, suc}
-use lib.ListN.{length}
 use Rattle.model.specs.Wait.{Cause}
 use Rattle.model.specs.Wait.Cause.{space, received, empty, start}
-use Rattle.model.specs.Steps.{Steps, then, waitFor}
+use Rattle.model.specs.Steps.{Steps}
 use Rattle.model.specs.Supported.{Supported}
 use Rattle.model.proofs.Supported.{then-supported, change-supported, wait-supported}
 use Rattle.qspi.specs.Phases.{Move, resetFifos, programTransfer, startTransfer, beginTransfer, moved, paced, gots, txPhase, rxPhase}

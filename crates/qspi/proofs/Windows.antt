@@ -14,7 +14,7 @@ use Rattle.model.specs.Frame.{Inside}
 use Rattle.model.specs.Frame.Inside.{ends, acts, asks, waits}
 use Rattle.model.proofs.Frame.{then-inside}
 use Rattle.access.specs.declared.progress.Progress.{Progress}
-use Rattle.qspi.specs.Phases.{moved, paced, gots, resetFifos, programTransfer, startTransfer, beginTransfer, txPhase, rxPhase}
+use Rattle.qspi.specs.Phases.{moved, paced, resetFifos, programTransfer, startTransfer, beginTransfer, txPhase, rxPhase}
 use Rattle.qspi.specs.Phases.Move.{sent}
 use Rattle.access.specs.Does.{Runs}
 use Rattle.qspi.proofs.Paced.{gots-inside}

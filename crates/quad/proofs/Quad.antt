@@ -4,7 +4,7 @@ use mathlib.Core.Bool.{cond}
 use mathlib.Core.List.{List}
 use Prim.Native.Nat.{ℕ, _<_}
 use lib.Dec.{eqb}
-use Rattle.model.specs.Steps.{Steps, then, finally, change, waitFor}
+use Rattle.model.specs.Steps.{Steps, then, change, waitFor}
 use Rattle.model.specs.State as state
 use Rattle.model.specs.State.{standing, advance}
 use Rattle.model.specs.Order.{Plain, BeginsWithRead}

@@ -1,16 +1,15 @@
 -- The chain, record by record: what a record without a fault says of its next, and the ways that a turn of a loop along the chain can go.
 use Prim.Native.Nat.{ℕ, zero, suc, _+_, _-_, _*_, _/_, _%_, _≤_, _<_}
-use mathlib.Core.Path.{_≡_, refl, sym, ap, _∙_}
+use mathlib.Core.Path.{_≡_, refl, ap, _∙_}
 use mathlib.Core.Bool.{Bool, true, false, cond, _&&_, _||_}
 use mathlib.Core.Logic.{_⊎_, inl, inr, ⊎-elim}
 use mathlib.Core.List.{List, [], _∷_}
 use native.Mathlib.Omega.{arith}
-use lib.ListN.{length, take, drop}
+use lib.ListN.{length, drop}
 use lib.Seq.{drop-drop}
 use lib.Dec.{leb, ltb, eqb}
 use borrow.Author.Tests.{ltb-true, leb-true, eqb-true, eq-eqb, ne-eqb}
 use Rattle.records.specs.Check.{recordAt, nextOf, field, known, outOfRange, nextFits, windowsFault, recordFault, Checked, fault, chain, ahead, step, recordsIn, along, checked, verdict}
-use Rattle.records.specs.declared.Verdict.{Verdict}
 
 -- where 8 is not given
 not-8 : (b : Bool) (x : ℕ) → cond b x 8 ≡ 0 → (b ≡ true) × (x ≡ 0)

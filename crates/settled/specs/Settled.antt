@@ -10,7 +10,7 @@ use Rattle.clock.specs.Rank.{choice}
 use Rattle.clock.specs.Dummies.{dummies}
 use Rattle.bus.specs.Calls as calls
 use Rattle.lines.specs.Settled.{text}
-use Rattle.sheet.specs.Words.{bytesOf, spell}
+use Rattle.sheet.specs.Words.{spell}
 use Rattle.sheet_run.specs.Print.{printedSheet}
 
 infix 10 _gives_

@@ -1,6 +1,6 @@
 -- The claims at document 01's sheet: limit 3, rate 10,000,000, QPI 0, one record, eight zero answers, memory 9f.
 use Prim.Native.Nat.{ℕ}
-use mathlib.Core.Path.{_≡_, refl, sym, _∙_}
+use mathlib.Core.Path.{_≡_, refl}
 use mathlib.Core.List.{List, [], _∷_}
 use native.Mathlib.Omega.{arith}
 use lib.ListN.{replicate}

@@ -1,17 +1,16 @@
 -- Demand 3 on bytes, from the law for chains and that on the bytes.
 use mathlib.Core.Path.{_≡_, refl, sym, ap, _∙_}
-use mathlib.Core.List.{List, _++_}
+use mathlib.Core.List.{List}
 use Prim.Native.Nat.{ℕ}
 use lib.ListN.{replicate}
 use Rattle.model.specs.State.{State}
-use Rattle.model.specs.Limit.{Ended, AgainCall}
 use Rattle.chain.proofs.Entry.{chain-again}
 use Rattle.lines.specs.Text.{printed}
-use Rattle.sheet.specs.Sheet.{Sheet, sheet, parse, continuedBytes}
+use Rattle.sheet.specs.Sheet.{parse, continuedBytes}
 use Rattle.sheet.proofs.SheetLaws.{continues}
 use Rattle.sheet_run.specs.Run.{chainIn, sheetOutcome, sheetState}
 use Rattle.sheet_run.specs.Print.{progressIn, marked, printedSheet}
-use Rattle.sheet_run.specs.Laws.{Continued, SheetAgain, LinesAgain}
+use Rattle.sheet_run.specs.Laws.{SheetAgain, LinesAgain}
 
 pub sheet-again : SheetAgain
 unfolding sheetOutcome

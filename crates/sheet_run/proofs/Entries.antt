@@ -7,7 +7,7 @@ use native.Mathlib.Omega.{arith}
 use lib.Dec.{eqb}
 use lib.ListN.{length, drop, replicate, length-append, length-replicate}
 use Rattle.model.specs.Steps.{Steps}
-use Rattle.model.specs.State.{State, begun, withNumber, advance, called}
+use Rattle.model.specs.State.{begun, withNumber, advance, called}
 use Rattle.model.proofs.Kept.{every-advance-keeps}
 use Rattle.chain.specs.Transaction.{outcome}
 use Rattle.sheet.specs.Sheet.{Parsed, refused, sheet, parse}

@@ -1,5 +1,5 @@
 -- A refused sheet, and the number that none gives.
-use mathlib.Core.Path.{_≡_, refl, sym, ap, _∙_}
+use mathlib.Core.Path.{_≡_, refl}
 use mathlib.Core.List.{List, _++_}
 use mathlib.Core.Logic.{⊎-elim}
 use Prim.Native.Nat.{ℕ, _-_, _≤_}
@@ -14,7 +14,7 @@ use Rattle.records.proofs.Lengths.{never-6}
 use Rattle.chain.specs.Chain.{chainSteps}
 use Rattle.chain.specs.Transaction.{faultNumber, refusal, outcome}
 use Rattle.chain.proofs.Entry.{chain-refused}
-use Rattle.sheet.specs.Sheet.{Sheet, Parsed, refused, sheet, parse, sheetOf, recordCount, answerCount, memoryFrom}
+use Rattle.sheet.specs.Sheet.{Sheet, Parsed, refused, sheet, parse, recordCount, answerCount, memoryFrom}
 use Rattle.sheet.proofs.SheetLaws.{accepted-is, parsed}
 use Rattle.sheet_run.specs.Run.{chainIn, sheetOutcome, bytesWith, sheetState}
 use Rattle.sheet_run.specs.Laws.{sheetRefusal, SheetRefused, SheetNever6}

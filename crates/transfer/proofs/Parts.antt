@@ -6,7 +6,7 @@ use native.Mathlib.Omega.{arith}
 use native.Mathlib.Nat.{add-zero, add-assoc}
 use lib.ListN.{length, take, drop, length-take, length-drop, length-append}
 use lib.Seq.{take-length, take-append-seam, take-append-le, drop-append-le, drop-append-add}
-use Rattle.model.specs.Steps.{Steps, then}
+use Rattle.model.specs.Steps.{then}
 use Rattle.model.specs.State.{advance}
 use Rattle.model.specs.Frame.{Inside}
 use Rattle.model.specs.Steps.End.{done}

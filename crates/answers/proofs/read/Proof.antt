@@ -1,7 +1,7 @@
 -- `answers::read` meets its contract: a walk of its MIR, by hand. The struct is taken apart, and `taken_at` is called on the slice and the number. What the fields own together is what it asks.
 -- All that the proof knows of `taken_at` is that it meets its contract.
 -- Assumes nothing.
-use Rattle.walk.proofs.Names.{_≡_, refl, ap, [], _∷_, URA, named, w64, vint, SProp, ent, emp, id⊢, via, fst∗, Lft, Share, Memory, Routine, Heap, Calls, Loops, WpFn, Atoms, Fun, givenOf, tables, Given, ‵, raw, given, _$_, _∵_, !, qed, move, keep, drop, use1, join, learn, fsplit, suffices, frame, done, whole, sub, look-in, look, init, stop, fld, from, load, of-opd, and-then, no-more, assigns, land, returns, enter, alloc1, alloc0, params1, pass1, pass0, FmC, owns, Is, NamedLft, namedLft, slice-vals, all-own, own-open, alive, onEntry, Triple, says}
+use Rattle.walk.proofs.Names.{_≡_, refl, [], _∷_, URA, w64, vint, SProp, ent, emp, id⊢, via, fst∗, Lft, Share, Memory, Routine, Heap, Calls, Loops, WpFn, Atoms, Fun, givenOf, tables, Given, ‵, raw, given, _$_, _∵_, !, qed, move, keep, drop, use1, join, learn, fsplit, suffices, frame, done, whole, sub, look-in, look, init, stop, fld, from, load, of-opd, and-then, no-more, assigns, land, returns, enter, alloc1, alloc0, params1, pass1, pass0, FmC, owns, Is, NamedLft, namedLft, slice-vals, all-own, own-open, alive, onEntry, Triple, says}
 use Rattle.walk.proofs.Walk.{Met, ends, asks, calls, leave, frames, known, proved}
 use denote.Struct.Laws as LL
 use Rattle.answers.specs.Taken.{takenAt}

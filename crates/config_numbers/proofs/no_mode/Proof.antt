@@ -1,6 +1,5 @@
 use mathlib.Core.Path.{refl}
 use borrow.Author.Tests.{ne-eqb}
-use borrow.Author.Needs.{needs}
 use Rattle.config_numbers.proofs.no_mode.Statement.{statement}
 use Rattle.config_numbers.proofs.no_mode.Tie as tie
 

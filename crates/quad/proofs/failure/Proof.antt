@@ -1,6 +1,5 @@
 use mathlib.Core.Path.{refl}
 use borrow.Author.Tests.{ne-eqb}
-use borrow.Author.Needs.{needs}
 use Rattle.quad.proofs.failure.Statement.{statement}
 use Rattle.quad.proofs.failure.Tie as tie
 

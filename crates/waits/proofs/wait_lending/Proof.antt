@@ -1,11 +1,10 @@
 -- A walk of `wait_lending` by hand: the tally is put into a local, which is lent to `wait_tallied` for a lifetime that is made for the call; that is ended, and the tally taken back at its last value.
-use Rattle.walk.proofs.Names.{_≡_, refl, ap, subst, ℕ, List, [], _∷_, length, URA, fullShare, named, w32, Val, vint, vptr, SProp, ent, emp, id⊢, via, fst∗, GName, fat, flft, Memory, Routine, Heap, Calls, Loops, WpFn, Atoms, Lfts, Shares, Fun, givenOf, tables, Given, ‵, raw, _⊛_, _$_, _∵_, !, qed, move, keep, use1, split, join, rewrite, fsplit, fjoin, suffices, frame, done, agg, whole, sub, look-in, look, init, stop, hop, fld, from, load, addr, of-opd, and-then, no-more, assigns, land, returns, enter, alloc1, alloc0, params1, pass1, pass0, FmC, RattleType, owns, Is, Are, Ises, uint-vals, uint-tells, u32, sliceVal, MutSlice, ShrSlice, slice-vals, mut-slice-tells, shr-slice-tells, only, owned, nothing, alive, onEntry, Triple, says, needs}
+use Rattle.walk.proofs.Names.{refl, ap, subst, ℕ, List, [], _∷_, length, URA, fullShare, named, w32, Val, vint, vptr, SProp, ent, id⊢, GName, fat, flft, Memory, Routine, Heap, Calls, Loops, WpFn, Atoms, Lfts, Shares, Fun, givenOf, tables, Given, ‵, raw, _⊛_, _$_, _∵_, !, qed, move, keep, use1, split, join, rewrite, fsplit, fjoin, suffices, frame, done, agg, whole, sub, look-in, look, init, stop, hop, fld, from, load, addr, of-opd, and-then, no-more, assigns, land, returns, enter, alloc1, alloc0, params1, pass1, pass0, FmC, RattleType, owns, Is, Are, Ises, uint-vals, uint-tells, u32, sliceVal, MutSlice, ShrSlice, slice-vals, mut-slice-tells, shr-slice-tells, only, owned, nothing, alive, onEntry, Triple, says, needs}
 use Rattle.walk.proofs.Walk.{Met, ends, asks-that, calls, leave, lent, returned, frames, known, proved}
 use denote.Struct.Laws as LL
 use denote.Enum.Laws as EL
 use Rattle.access.specs.declared.progress.Tally.{Tally}
 use Rattle.waits.specs.declared.Outcome.{Outcome}
-use Rattle.waits.specs.declared.Tallied.{Tallied}
 use Rattle.access.proofs.progress.Tally as T
 use Rattle.access.proofs.progress.Tally.Laws as T′
 use Rattle.access.proofs.progress.Cause as Cs

@@ -1,5 +1,5 @@
 -- A walk of `wait_tallied` by hand: the tally's borrow is opened and the tally copied out, `wait_by_value` is called with all else as it was passed, and the borrow is closed at the tally that it returned.
-use Rattle.walk.proofs.Names.{_≡_, refl, ap, ℕ, List, [], _∷_, length, URA, fullShare, named, w32, Val, vint, vptr, SProp, ent, emp, id⊢, via, fst∗, GName, Lft, Share, fat, flft, Memory, Routine, Heap, Calls, Loops, WpFn, Atoms, Lfts, Shares, Fun, givenOf, tables, Given, ‵, raw, _⊛_, _$_, _∵_, !, qed, move, keep, drop, split, join, rewrite, fsplit, fjoin, suffices, frame, done, agg, whole, sub, look-in, look, look-raw, init, store-raw, stop, hop, fld, from, load, addr, of-opd, and-then, no-more, assigns, land, returns, enter, alloc1, alloc0, params1, pass1, pass0, FmC, RattleType, owns, Is, Are, Ises, uint-vals, uint-tells, u32, RefT, MutRef, ptr-vals, mut-tells, sliceVal, MutSlice, ShrSlice, slice-vals, mut-slice-tells, shr-slice-tells, only, owned, alive, onEntry, Triple, says, needs}
+use Rattle.walk.proofs.Names.{refl, ap, ℕ, List, [], _∷_, length, URA, fullShare, named, w32, Val, vint, vptr, SProp, ent, id⊢, GName, Lft, Share, fat, flft, Memory, Routine, Heap, Calls, Loops, WpFn, Atoms, Lfts, Shares, Fun, givenOf, tables, Given, ‵, raw, _⊛_, _$_, _∵_, !, qed, move, keep, drop, split, join, rewrite, fsplit, fjoin, suffices, frame, done, agg, whole, sub, look-in, look, look-raw, init, store-raw, stop, hop, fld, from, load, addr, of-opd, and-then, no-more, assigns, land, returns, enter, alloc1, alloc0, params1, pass1, pass0, FmC, RattleType, owns, Is, Are, Ises, uint-vals, uint-tells, u32, RefT, MutRef, ptr-vals, mut-tells, sliceVal, MutSlice, ShrSlice, slice-vals, mut-slice-tells, shr-slice-tells, only, owned, alive, onEntry, Triple, says, needs}
 use Rattle.walk.proofs.Walk.{Met, ends, asks-that, calls, leave, opened, closed, frames, known, proved}
 use denote.Struct.Laws as LL
 use denote.Enum.Laws as EL
@@ -15,7 +15,7 @@ use Rattle.waits.proofs.Outcome as Wt
 use Rattle.waits.proofs.Outcome.Laws as Wt′
 use Rattle.waits.proofs.Tallied as R
 use Rattle.waits.proofs.Tallied.Laws as R′
-use Rattle.waits.specs.Lent.{tallied, Begins}
+use Rattle.waits.specs.Lent.{Begins}
 use Rattle.waits.proofs.Passed.{More, Vals, vals, Last, Said}
 use Rattle.waits.proofs.wait_by_value as core
 use Rattle.waits.proofs.wait_by_value.Symbol as core-def

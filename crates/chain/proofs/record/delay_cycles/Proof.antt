@@ -1,6 +1,5 @@
 use mathlib.Core.Path.{refl}
 use Rattle.chain.specs.Chain.{delayCycles}
-use borrow.Author.Needs.{needs}
 use Rattle.chain.proofs.record.delay_cycles.Statement.{statement}
 use Rattle.chain.proofs.record.delay_cycles.Tie as tie
 
