@@ -1,8 +1,8 @@
 //! One case: read, run, written.
 
-use crate::exports::{self, Ended, Lent};
 use crate::program;
 use crate::words::Words;
+use qspi::{Ended, Lent, by_number};
 use std::fmt::Write as _;
 use std::io::{self, BufRead, Write};
 
@@ -29,9 +29,6 @@ const CASES: [(&str, Answer); 16] = [
     ("print", print),
 ];
 
-/// The log of a sheet: 4,096 entries.
-const SHEET_LOG_WORDS: usize = 8192;
-
 /// What a log word holds before a call, so that one written past the last entry shows.
 const UNTOUCHED: u32 = 0x5AA5_C33C;
 
@@ -56,24 +53,11 @@ fn call(
 
 /// Writes the log, the end line and, if a word past the last entry no longer has its value, `changed`.
 fn ended(e: Ended, log: &[u32], out: &mut String) -> Result<(), String> {
-    let (made, past) = log.split_at((e.entries * 2).min(log.len()));
-    for entry in made.chunks_exact(2) {
-        let op = (entry[0] >> 16).checked_sub(1);
-        let letter = op
-            .and_then(|i| b"rwbgd".get(i as usize))
-            .map_or('?', |&b| char::from(b));
-        writeln!(out, "{letter} {:04x} {:08x}", entry[0] & 0xFFFF, entry[1])
-            .map_err(|e| e.to_string())?;
+    for entry in e.log(log) {
+        writeln!(out, "{entry}").map_err(|e| e.to_string())?;
     }
-    let Ended {
-        number,
-        entries,
-        taken,
-        polls,
-        longest,
-    } = e;
-    writeln!(out, "end {number} {entries} {taken} {polls} {longest}").map_err(|e| e.to_string())?;
-    if past.iter().any(|&word| word != UNTOUCHED) {
+    writeln!(out, "{e}").map_err(|e| e.to_string())?;
+    if e.split(log).1.iter().any(|&word| word != UNTOUCHED) {
         out.push_str("changed\n");
     }
     Ok(())
@@ -96,7 +80,7 @@ fn open(w: &mut Words, out: &mut String) -> Result<(), String> {
     let (selects, record) = (w.flag()?, [w.flag()?, w.flag()?, w.flag()?]);
     let (freq, pll_hz, osc_hz) = (w.u32()?, w.u32()?, w.u32()?);
     let (qpi, limit, log_words) = (w.flag()?, w.u32()?, w.usize()?);
-    let asked = exports::Opening {
+    let asked = by_number::Opening {
         instance,
         qpi,
         pll_hz,
@@ -112,7 +96,7 @@ fn open(w: &mut Words, out: &mut String) -> Result<(), String> {
     };
     let mut rate = 0;
     call(limit, log_words, w, out, |lent| {
-        let (ended, hz) = exports::open(lent, &asked);
+        let (ended, hz) = by_number::open(lent, &asked);
         rate = hz;
         ended
     })?;
@@ -121,21 +105,21 @@ fn open(w: &mut Words, out: &mut String) -> Result<(), String> {
 
 fn free(w: &mut Words, out: &mut String) -> Result<(), String> {
     let (instance, log_words) = (w.u32()?, w.usize()?);
-    call(1, log_words, w, out, |lent| exports::free(lent, instance))
+    call(1, log_words, w, out, |lent| {
+        qspi::free(lent.log, lent.answers, instance)
+    })
 }
 
 fn write(w: &mut Words, out: &mut String) -> Result<(), String> {
     let (limit, log_words, bytes) = (w.u32()?, w.usize()?, w.bytes()?);
-    call(limit, log_words, w, out, |lent| {
-        exports::write(lent, &bytes)
-    })
+    call(limit, log_words, w, out, |lent| qspi::write(lent, &bytes))
 }
 
 fn read(w: &mut Words, out: &mut String) -> Result<(), String> {
     let (limit, log_words, mut bytes) = (w.u32()?, w.usize()?, w.bytes()?);
     let given = bytes.clone();
     call(limit, log_words, w, out, |lent| {
-        exports::read(lent, &mut bytes)
+        qspi::read(lent, &mut bytes)
     })?;
     changes(&given, &bytes, out);
     Ok(())
@@ -146,7 +130,7 @@ fn transfer(w: &mut Words, out: &mut String) -> Result<(), String> {
     let (mut bytes, sent) = (w.bytes()?, w.bytes()?);
     let given = bytes.clone();
     call(limit, log_words, w, out, |lent| {
-        exports::transfer(lent, &mut bytes, &sent)
+        qspi::transfer(lent, &mut bytes, &sent)
     })?;
     changes(&given, &bytes, out);
     Ok(())
@@ -154,14 +138,14 @@ fn transfer(w: &mut Words, out: &mut String) -> Result<(), String> {
 
 fn flush(w: &mut Words, out: &mut String) -> Result<(), String> {
     let (limit, log_words) = (w.u32()?, w.usize()?);
-    call(limit, log_words, w, out, exports::flush)
+    call(limit, log_words, w, out, qspi::flush)
 }
 
 fn inplace(w: &mut Words, out: &mut String) -> Result<(), String> {
     let (limit, log_words, mut bytes) = (w.u32()?, w.usize()?, w.bytes()?);
     let given = bytes.clone();
     call(limit, log_words, w, out, |lent| {
-        exports::transfer_in_place(lent, &mut bytes)
+        qspi::transfer_in_place(lent, &mut bytes)
     })?;
     changes(&given, &bytes, out);
     Ok(())
@@ -171,7 +155,7 @@ fn mode(w: &mut Words, out: &mut String) -> Result<(), String> {
     let (limit, log_words) = (w.u32()?, w.usize()?);
     let (qpi, mode) = (w.up_to(1)? == 1, w.u32()?);
     call(limit, log_words, w, out, |lent| {
-        exports::set_work_mode(lent, qpi, mode)
+        by_number::set_work_mode(lent, qpi, mode)
     })
 }
 
@@ -181,14 +165,14 @@ fn quadread(w: &mut Words, out: &mut String) -> Result<(), String> {
     let (tclqv_ns, margin) = (w.u32()?, w.up_to(255)? as u8);
     let mut bytes = w.bytes()?;
     let given = bytes.clone();
-    let asked = exports::QuadRead {
+    let asked = qspi::QuadRead {
         hz,
         command: &command,
         tclqv_ns,
         margin,
     };
     call(limit, log_words, w, out, |lent| {
-        exports::read_quad(lent, &asked, &mut bytes)
+        qspi::read_quad(lent, &asked, &mut bytes)
     })?;
     changes(&given, &bytes, out);
     Ok(())
@@ -198,7 +182,7 @@ fn quadwrite(w: &mut Words, out: &mut String) -> Result<(), String> {
     let (limit, log_words) = (w.u32()?, w.usize()?);
     let (command, data) = (w.bytes()?, w.bytes()?);
     call(limit, log_words, w, out, |lent| {
-        exports::write_quad(lent, &command, &data)
+        qspi::write_quad(lent, &command, &data)
     })
 }
 
@@ -207,7 +191,7 @@ fn transaction(w: &mut Words, out: &mut String) -> Result<(), String> {
     let (records, mut memory) = (w.list()?, w.bytes()?);
     let given = memory.clone();
     call(limit, log_words, w, out, |lent| {
-        exports::transaction(lent, &mut memory, &records)
+        qspi::transaction(lent, &mut memory, &records)
     })?;
     changes(&given, &memory, out);
     Ok(())
@@ -216,22 +200,22 @@ fn transaction(w: &mut Words, out: &mut String) -> Result<(), String> {
 fn clock(w: &mut Words, out: &mut String) -> Result<(), String> {
     let (pll, target) = (w.u32()?, w.u32()?);
     w.end()?;
-    let (m, kind, count) = exports::select_clock(pll, target);
-    let (_, rate) = exports::actual_sck(pll, m, kind, count);
+    let (m, kind, count) = by_number::select_clock(pll, target);
+    let (_, rate) = by_number::actual_sck(pll, m, kind, count);
     writeln!(out, "clock {m} {kind} {count} {rate}").map_err(|e| e.to_string())
 }
 
 fn sck(w: &mut Words, out: &mut String) -> Result<(), String> {
     let (pll, m, kind, count) = (w.u32()?, w.u32()?, w.u32()?, w.u32()?);
     w.end()?;
-    let (number, rate) = exports::actual_sck(pll, m, kind, count);
-    writeln!(out, "sck {number} {rate}").map_err(|e| e.to_string())
+    let (number, rate) = by_number::actual_sck(pll, m, kind, count);
+    writeln!(out, "sck {} {rate}", number.get()).map_err(|e| e.to_string())
 }
 
 fn dummy(w: &mut Words, out: &mut String) -> Result<(), String> {
     let (rate, tclqv_ns, margin) = (w.u32()?, w.u32()?, w.up_to(255)? as u8);
     w.end()?;
-    let count = exports::dummy_bytes_for(rate, tclqv_ns, margin);
+    let count = qspi::dummy_bytes_for(rate, tclqv_ns, margin);
     writeln!(out, "dummy {count}").map_err(|e| e.to_string())
 }
 
@@ -239,8 +223,8 @@ fn sheet(w: &mut Words, out: &mut String) -> Result<(), String> {
     let mut bytes = w.bytes()?;
     w.end()?;
     let given = bytes.clone();
-    let mut log = vec![UNTOUCHED; SHEET_LOG_WORDS];
-    let e = exports::sheet(&mut log, &mut bytes);
+    let mut log = vec![UNTOUCHED; qspi::SHEET_LOG_WORDS];
+    let e = qspi::sheet(&mut bytes, &mut log);
     ended(e, &log, out)?;
     changes(&given, &bytes, out);
     Ok(())
@@ -283,6 +267,39 @@ pub fn answer_all(input: impl BufRead, mut output: impl Write) -> io::Result<()>
 #[cfg(test)]
 mod tests {
     use super::*;
+
+    /// A case of each name, and the last line of its answer.
+    const ONE_OF_EACH: [(&str, &str); 16] = [
+        (
+            "open 2 0 1 0 0 0 0 0 0 0 10000000 1200000000 24000000 0 1 9 0",
+            "rate 0",
+        ),
+        ("free 0 4 1 0xffffffff", "end 0 2 1 0 0"),
+        ("write 0 10 1 0 0", "end 7 0 0 0 0"),
+        ("read 1 40 1 0 8 1 1 1 1 1 1 1 1", "m 00000000 01"),
+        ("inplace 1 10 0 0 0", "end 0 0 0 0 0"),
+        ("transfer 1 10 1 0 1 0 0", "end 11 0 0 0 0"),
+        ("flush 3 100 3 0x80000000 0x80000000 0", "end 0 3 3 3 2"),
+        ("mode 1 10 0 6 1 0", "end 2 1 1 1 0"),
+        ("quadread 1 0 1 0 0 1 0 1 0 0", "end 10 0 0 0 0"),
+        ("quadwrite 1 0 0 0 0 0 0", "end 10 0 0 0 0"),
+        ("transaction 1 2 1 0 0 0 0", "end 8 0 0 0 0"),
+        ("clock 1200000000 10000000", "clock 11 2 4 10000000"),
+        ("sck 1000000 32 1 0", "sck 12 0"),
+        ("dummy 100000000 81 0", "dummy 2"),
+        ("sheet 19 0", "end 13 0 0 0 0"),
+        ("print 20 0", "end 7 0 0 0 0"),
+    ];
+
+    #[test]
+    fn one_of_each() {
+        for ((line, end), (name, _)) in ONE_OF_EACH.into_iter().zip(CASES) {
+            let mut out = String::new();
+            assert_eq!(answer(line, &mut out), Ok(()), "{line}");
+            assert!(line.starts_with(&format!("{name} ")));
+            assert_eq!(out.lines().last(), Some(end), "{line}");
+        }
+    }
 
     #[test]
     fn names_and_ends() {
