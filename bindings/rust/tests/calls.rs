@@ -1,8 +1,8 @@
 //! Every call once at least, with what document 01 says of it.
 
 use qspi::{
-    Choice, Config, Divider, Ended, Entry, Lent, Number, Opening, Operation, QuadRead, SHEET_BYTES, SHEET_LOG_WORDS,
-    SheetOperation, SpiMode, Window, WorkMode, by_number,
+    Choice, Config, CsConfig, CsLevel, CsPin, CtrlMode, Divider, Ended, Entry, Lent, Number, Opening, Operation,
+    Polarity, QuadRead, SHEET_BYTES, SHEET_LOG_WORDS, SheetOperation, SpiMode, Window, WorkMode, by_number,
 };
 
 /// What a log word holds before a call.
@@ -265,6 +265,38 @@ fn open() {
     assert_eq!(values(&entries, 'w', 0x024), [0x1004]);
     assert_eq!(values(&entries, 'd', 0), [500, 500, 100, 100]);
     assert_eq!(values(&entries, 'w', 0x014), [0xFFFF_FFFF]);
+}
+
+/// All that an opening on zero answers writes at a place.
+fn written(place: u16, opening: Opening) -> u32 {
+    let (_, entries) = called(1, 200, &[0; 20], |lent| qspi::open(lent, &opening).ended);
+    assert_eq!(entries.last().map(|e| e.place), Some(0x014));
+    values(&entries, 'w', place).into_iter().fold(0, |all, word| all | word)
+}
+
+/// Of what is written on zero answers, a field sets or clears exactly its own bits.
+#[test]
+fn each_field_of_a_configuration_arrives() {
+    let low = CsConfig { polarity: Polarity::IdleLow, level: CsLevel::Low, pin: CsPin::Cs0 };
+    let plain = Config { cs_config: Some(low), ..Config::nor_flash() };
+    let at = |place, config| written(place, Opening { config, ..opening() });
+    let changed = |place, config| at(place, config) ^ at(place, plain);
+    let select = |cs| changed(0x008, Config { cs_config: Some(cs), ..plain });
+    assert_eq!(changed(0x008, Config { cs_config: None, ..plain }), 1 << 6);
+    assert_eq!(changed(0x008, Config { mode: SpiMode::Mode2, ..plain }), 1 << 1);
+    assert_eq!(changed(0x008, Config { lsb_first: true, ..plain }), 1 << 12);
+    assert_eq!(select(CsConfig { polarity: Polarity::IdleHigh, ..low }), 1 << 2);
+    assert_eq!(select(CsConfig { level: CsLevel::High, ..low }), 1 << 7);
+    assert_eq!(select(CsConfig { pin: CsPin::Cs1, ..low }), 1 << 4);
+    assert_eq!(changed(0x004, Config { ctrl_mode: CtrlMode::Slave, ..plain }), 1 << 1);
+    assert_eq!(changed(0x040, Config { bit_mode_en: true, ..plain }), 3);
+    assert_eq!(changed(0x038, Config { work_mode: WorkMode::Dual, ..plain }), 1 << 28);
+    // 008 bit 13 is set exactly if the rate is not above the oscillator's; QPI opens on a chip that has it.
+    let slow = Opening { osc_hz: 99_999_999, config: plain, ..opening() };
+    let fast = Opening { osc_hz: 100_000_000, ..slow };
+    assert_eq!(written(0x008, slow) ^ written(0x008, fast), 1 << 13);
+    let work_mode = WorkMode::Qpi;
+    assert_eq!(written(0x038, Opening { qpi: true, config: Config { work_mode, ..plain }, ..slow }), 1 << 31);
 }
 
 #[test]
