@@ -103,7 +103,7 @@ fn sheet(bytes: &[u64]) -> u32 {
 }
 
 /// The first refusal along a chain whose kinds go from 1 to `highest`.
-fn chain(words: &[u64], highest: u64, memory: u64) -> u32 {
+pub fn chain(words: &[u64], highest: u64, memory: u64) -> u32 {
     if !words.len().is_multiple_of(8) {
         return 8;
     }

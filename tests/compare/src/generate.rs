@@ -29,7 +29,7 @@ pub fn case(rng: &mut Rng, name: &str) -> String {
             let [rate, tclqv, margin] = timing(rng);
             format!("dummy {rate} {tclqv} {margin}")
         }
-        "sheet" | "print" => format!("{name}{}", sheet(rng)),
+        "sheet" | "print" => sheet(rng, name),
         _ => on_a_bus(rng, name),
     }
 }
@@ -45,7 +45,7 @@ fn bytes(rng: &mut Rng, length: usize) -> String {
 }
 
 /// ` COUNT w1 .. wCOUNT`.
-fn list(words: &[u32]) -> String {
+pub fn list(words: &[u32]) -> String {
     let mut text = format!(" {}", words.len());
     words.iter().for_each(|w| write!(text, " {w:#x}").unwrap());
     text

@@ -18,8 +18,8 @@ struct Sheet {
     memory: Vec<u8>,
 }
 
-/// ` LENGTH GIVEN b1 .. bGIVEN`, the bytes of a sheet.
-pub fn sheet(rng: &mut Rng) -> String {
+/// A case line whose bytes are a sheet.
+pub fn sheet(rng: &mut Rng, name: &str) -> String {
     let mut s = match rng.below(100) {
         0 | 1 => long(rng),
         2 => polls(rng),
@@ -35,13 +35,13 @@ pub fn sheet(rng: &mut Rng) -> String {
     if rng.once_in(12) {
         damage(rng, &mut bytes);
     }
-    text(&bytes)
+    line(name, &bytes)
 }
 
-/// Zeros at the end are not given.
-fn text(bytes: &[u8]) -> String {
+/// `NAME LENGTH GIVEN b1 .. bGIVEN`; zeros at the end are not given.
+pub fn line(name: &str, bytes: &[u8]) -> String {
     let given = bytes.iter().rposition(|&b| b != 0).map_or(0, |last| last + 1);
-    let mut text = format!(" {} {given}", bytes.len());
+    let mut text = format!("{name} {} {given}", bytes.len());
     bytes[..given].iter().for_each(|b| write!(text, " {b}").unwrap());
     text
 }

@@ -2,9 +2,9 @@
 
 use crate::cases::cases;
 use crate::child::Child;
+use crate::compare::number;
 use crate::due::due;
 use crate::generate::NAMES;
-use crate::number;
 use std::collections::{BTreeMap, BTreeSet};
 use std::sync::Arc;
 
@@ -14,7 +14,7 @@ fn made(count: &str) -> Vec<String> {
 
 fn made_only(count: &str, names: &str) -> Vec<String> {
     let words = ["--seed", "1", "--count", count, "--only", names].map(String::from);
-    cases(words.into_iter()).unwrap().collect()
+    cases(words.into_iter()).unwrap().0.collect()
 }
 
 /// The words of a line that the oracle writes where the Rust has no answer.
@@ -31,7 +31,7 @@ fn every_name_is_reached() {
 }
 
 /// The oracle's answers; it has one for each line that is not refused.
-fn answers(lines: &[String]) -> Vec<String> {
+pub fn answers(lines: &[String]) -> Vec<String> {
     let mut oracle = Child::start("oracle").unwrap();
     oracle.send(&Arc::new(lines.join("\n") + "\n"));
     oracle.close();
