@@ -54,6 +54,11 @@ module _ {bytes : List ℕ} {p r : Progress} {log log' : List ℕ} {i : ℕ} (on
             onto _ _ l ws (stateOf r log' m) (on .state l ws m ∙ ap (λ s. advance s l ws (stateOf r log' m)) (sends-next bytes i h)) (a .state l ws m);
       }
 
+  pub sending-stops : {t : Progress} {log'' : List ℕ} → i < length bytes → Acts (act (send (getD bytes i 0)) (end done)) r log' t log''
+      → (t .number ≡ 0 → ⊥) → Acts (movedAll (map sent bytes)) p log t log''
+  sending-stops {t} {log''} h a n =
+      record { sound = a .sound; state = λ l ws m. sym (sending-more h a .state l ws m ∙ skipped _ l ws (stateOf t log'' m) n) }
+
   pub sending-done : length bytes ≤ i → Acts (movedAll (map sent bytes)) p log r log'
   unfolding movedAll
   sending-done h =

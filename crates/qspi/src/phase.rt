@@ -80,6 +80,10 @@ fn send_all(progress: Progress, log: &mut [u32], buf: &[u8]) -> Progress
     let mut i: usize = 0;
     while i < buf.len() {
         current = access::entry::perform(current, log, Act::Send(buf[i]));
+        let number = current.number;
+        if number != 0 {
+            return current;
+        }
         i += 1;
     }
     current

@@ -2,7 +2,7 @@ use mathlib.Core.Path.{_≡_}
 use Prim.Native.Nat.{_-_}
 use borrow.Author.Needs.{needs}
 use lib.ListN.{length}
-use Rattle.qspi.proofs.Bytes.{Sending, sending-starts, sending-more, sending-done}
+use Rattle.qspi.proofs.Bytes.{Sending, sending-starts, sending-more, sending-stops, sending-done}
 use Rattle.qspi.proofs.phase.send_all.Statement.{statement}
 use Rattle.qspi.proofs.phase.send_all.Tie as tie
 
@@ -15,11 +15,20 @@ abbrev μ-loop : tie.MeasureT-loop
 loop-holds : tie.Need-loop-holds Inv-loop μ-loop
 loop-holds c = (search needs, sending-starts _ _ _ (search needs))
 
-shared-slice-read-t11 : tie.Need-shared-slice-read-t11 Inv-loop μ-loop
-shared-slice-read-t11 c = search needs
+shared-slice-read-t12 : tie.Need-shared-slice-read-t12 Inv-loop μ-loop
+shared-slice-read-t12 c = search needs
 
 perform-requires : tie.Need-perform-requires Inv-loop μ-loop
 perform-requires c κs = search needs
+
+same-length : tie.Need-same-length Inv-loop μ-loop
+same-length c = search needs
+
+returns : tie.Need-returns Inv-loop μ-loop
+returns c =
+    let sent = c .before .before .before in
+    let turn = sent .before .before .before in
+    sending-stops (turn .before .loop .inv .1) (turn .loop-test .taken) (sent .perform .ensures) (c .if1 .taken)
 
 add-i : tie.Need-add-i Inv-loop μ-loop
 add-i c = search needs
@@ -30,16 +39,16 @@ loop-less c = search needs
 loop-again : tie.Need-loop-again Inv-loop μ-loop
 loop-again c = (
   search needs,
-  let sent = c .before .before in
+  let sent = c .before .before .before in
       let turn = sent .before .before .before in
       sending-more (turn .before .loop .inv .1) (turn .loop-test .taken) (sent .perform .ensures),
 )
 
-same-length : tie.Need-same-length Inv-loop μ-loop
-same-length c = search needs
+same-length-2 : tie.Need-same-length-2 Inv-loop μ-loop
+same-length-2 c = search needs
 
-returns : tie.Need-returns Inv-loop μ-loop
-returns c = sending-done (c .before .loop .inv .1) (c .loop-test .left)
+returns-2 : tie.Need-returns-2 Inv-loop μ-loop
+returns-2 c = sending-done (c .before .loop .inv .1) (c .loop-test .left)
 
 pub send-all-spec : {M : Type 1} → statement M
 send-all-spec =
@@ -48,10 +57,12 @@ send-all-spec =
     Inv-loop
     μ-loop
     loop-holds
-    shared-slice-read-t11
+    shared-slice-read-t12
     perform-requires
+    same-length
+    returns
     add-i
     loop-less
     loop-again
-    same-length
-    returns)
+    same-length-2
+    returns-2)
