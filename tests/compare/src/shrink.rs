@@ -4,7 +4,7 @@ use crate::generate::list;
 use crate::sheet;
 use std::fmt::Write;
 
-/// The most words or bytes of a part that are changed one by one; of a longer part whole stretches go first.
+/// The most words or bytes of a part that are changed one by one, and the most stretches that one is cut into.
 const FEW: usize = 64;
 /// A size of which a part's words and bytes are not written out.
 const MOST: usize = 1 << 17;
@@ -113,11 +113,11 @@ fn bytes_of(parts: &[Part]) -> Vec<u8> {
     }
 }
 
-/// What is left of a list when a stretch of it goes: halves first, single ones last and only of a short list.
+/// What is left of a list when a stretch of it goes: halves first, single ones last and only of a short list; or its last.
 fn shorter<T: Clone>(list: &[T], unit: usize) -> Vec<Vec<T>> {
     let mut lists = Vec::new();
     let mut size = list.len() / unit;
-    while size > 0 && (size > 1 || list.len() / unit <= FEW) {
+    while size > 0 && list.len() / unit / size <= FEW {
         let stretches = list.len() / unit / size;
         lists.extend((0..stretches).map(|i| [&list[..i * size * unit], &list[(i + 1) * size * unit..]].concat()));
         size /= 2;
