@@ -1,6 +1,6 @@
 //! The port's library: the only part that knows its package.
 
-use port::exports as library;
+use qspi::by_number as library;
 use recorder::Counts;
 
 /// How a call ended: its number and its counts.
@@ -23,14 +23,14 @@ impl<'a> Lent<'a> {
     }
 }
 
-fn ended(e: library::Ended) -> Ended {
+fn ended(e: qspi::Ended) -> Ended {
     (
-        e.number,
+        e.number.get(),
         Counts {
-            entries: e.entries,
-            taken: e.taken,
-            polls: e.polls,
-            longest: e.longest,
+            entries: e.counts.entries,
+            taken: e.counts.taken,
+            polls: e.counts.polls,
+            longest: e.counts.longest,
         },
     )
 }
@@ -86,7 +86,7 @@ pub fn open(l: &mut Lent, [pll_hz, osc_hz, freq]: [u32; 3]) -> Ended {
 }
 
 pub fn sheet(log: &mut [u32], bytes: &mut [u8]) -> Ended {
-    ended(library::sheet(log, bytes))
+    ended(library::sheet(bytes, log))
 }
 
 /// Module divider, 1 for Cdr1 or 2 for Cdr2, its divider.
