@@ -1,0 +1,55 @@
+use lib.ListN.{length-take}
+use lib.ListN.{length}
+use denote.Ref.{now}
+use Rattle.replay.proofs.Prefix.{counts}
+use native.Mathlib.Omega.{arith}
+use borrow.Author.Needs.{needs}
+use Rattle.replay.proofs.text.put.Statement.{statement}
+use Rattle.replay.proofs.text.put.Tie as tie
+
+returns : tie.Need-returns
+returns c = let out = now (c .before .before .before .args .out) in
+    counts out (length out) (omega arith)
+
+sub-if2 : tie.Need-sub-if2
+sub-if2 c = search needs
+
+returns-2 : tie.Need-returns-2
+returns-2 c = let out = now (c .before .before .before .before .args .out) in
+    counts out (length out) (omega arith)
+
+sub-copy : tie.Need-sub-copy
+sub-copy c = search needs
+
+part-copy-start : tie.Need-part-copy-start
+part-copy-start c = search needs
+
+part-copy-end : tie.Need-part-copy-end
+part-copy-end c = search needs
+
+copy-requires : tie.Need-copy-requires
+copy-requires c κs = search needs
+
+add-result : tie.Need-add-result
+add-result c = search needs
+
+same-length : tie.Need-same-length
+same-length c = search needs
+
+returns-3 : tie.Need-returns-3
+returns-3 c = (omega (arith, same-length c), simp length-take (omega (arith, same-length c)))
+
+pub put-spec : {M : Type 1} → statement M
+put-spec =
+    tie.close
+    (tie.spec
+    returns
+    sub-if2
+    returns-2
+    sub-copy
+    part-copy-start
+    part-copy-end
+    copy-requires
+    add-result
+    same-length
+    returns-3)
