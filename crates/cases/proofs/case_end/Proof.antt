@@ -1,9 +1,9 @@
-use Rattle.cases.proofs.Laws.{end-here, end-next, end-none}
-use Rattle.cases.specs.Ends.{endFrom}
 use lib.ListN.{length}
 use Prim.Native.Nat.{_-_, _≤_}
 use mathlib.Core.Path.{_≡_, refl, sym, _∙_}
 use borrow.Author.Needs.{needs}
+use Rattle.cases.proofs.Laws.{end-here, end-next, end-none}
+use Rattle.cases.specs.Ends.{endFrom}
 use Rattle.cases.proofs.case_end.Statement.{statement}
 use Rattle.cases.proofs.case_end.Tie as tie
 

@@ -1,6 +1,6 @@
-use Rattle.cases.specs.Number.{digitOf}
-use borrow.Author.Tests.{lt-ltb, le-ltb, eq-eqb, ne-eqb, le-leb, lt-leb}
+use borrow.Author.Tests.{lt-ltb, le-ltb}
 use borrow.Author.Needs.{needs}
+use Rattle.cases.specs.Number.{digitOf}
 use Rattle.cases.proofs.digit.Statement.{statement}
 use Rattle.cases.proofs.digit.Tie as tie
 

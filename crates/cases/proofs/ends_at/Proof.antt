@@ -1,8 +1,8 @@
-use Rattle.cases.proofs.Laws.{ends-third}
 use mathlib.Core.Path.{sym}
-use Rattle.cases.specs.Ends.{endsAt}
-use borrow.Author.Tests.{lt-ltb, le-ltb, eq-eqb, ne-eqb, le-leb, lt-leb}
+use borrow.Author.Tests.{lt-ltb, le-ltb, eq-eqb, ne-eqb}
 use borrow.Author.Needs.{needs}
+use Rattle.cases.proofs.Laws.{ends-third}
+use Rattle.cases.specs.Ends.{endsAt}
 use Rattle.cases.proofs.ends_at.Statement.{statement}
 use Rattle.cases.proofs.ends_at.Tie as tie
 

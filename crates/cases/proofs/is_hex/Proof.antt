@@ -1,8 +1,8 @@
-use Rattle.cases.proofs.Laws.{hex-third}
 use mathlib.Core.Path.{sym}
-use Rattle.cases.specs.Number.{isHex}
-use borrow.Author.Tests.{lt-ltb, le-ltb, eq-eqb, ne-eqb, le-leb, lt-leb}
+use borrow.Author.Tests.{lt-ltb, le-ltb, ne-eqb}
 use borrow.Author.Needs.{needs}
+use Rattle.cases.proofs.Laws.{hex-third}
+use Rattle.cases.specs.Number.{isHex}
 use Rattle.cases.proofs.is_hex.Statement.{statement}
 use Rattle.cases.proofs.is_hex.Tie as tie
 

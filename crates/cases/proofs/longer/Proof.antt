@@ -1,9 +1,9 @@
-use Rattle.cases.proofs.Laws.{step-more}
-use Rattle.cases.specs.Number.{step}
 use native.Mathlib.Nat.{mul-le-mul}
 use native.Mathlib.Omega.{arith}
-use borrow.Author.Tests.{lt-ltb, le-ltb, eq-eqb, ne-eqb, le-leb, lt-leb}
+use borrow.Author.Tests.{le-leb}
 use borrow.Author.Needs.{needs}
+use Rattle.cases.proofs.Laws.{step-more}
+use Rattle.cases.specs.Number.{step}
 use Rattle.cases.proofs.longer.Statement.{statement}
 use Rattle.cases.proofs.longer.Tie as tie
 

@@ -1,7 +1,7 @@
-use Rattle.cases.proofs.Laws.{hex-long, number-hex, number-none, number-decimal}
-use mathlib.Core.Path.{_≡_, refl, sym, _∙_}
+use mathlib.Core.Path.{sym, _∙_}
 use native.Mathlib.Omega.{arith}
 use borrow.Author.Needs.{needs}
+use Rattle.cases.proofs.Laws.{hex-long, number-hex, number-none, number-decimal}
 use Rattle.cases.proofs.number.Statement.{statement}
 use Rattle.cases.proofs.number.Tie as tie
 

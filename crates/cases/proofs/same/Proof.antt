@@ -1,10 +1,10 @@
-use Rattle.cases.proofs.Laws.{same-next, same-differ, same-shorter, same-longer, same-end}
-use Rattle.cases.specs.Same.{sameBytes}
 use lib.ListN.{length, drop}
 use Prim.Native.Nat.{_-_, _≤_}
 use mathlib.Core.Path.{_≡_, refl, sym, _∙_}
 use native.Mathlib.Omega.{arith}
 use borrow.Author.Needs.{needs}
+use Rattle.cases.proofs.Laws.{same-next, same-differ, same-shorter, same-longer, same-end}
+use Rattle.cases.specs.Same.{sameBytes}
 use Rattle.cases.proofs.same.Statement.{statement}
 use Rattle.cases.proofs.same.Tie as tie
 

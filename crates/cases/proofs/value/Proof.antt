@@ -1,9 +1,9 @@
-use Rattle.cases.proofs.Laws.{value-next, value-end}
-use Rattle.cases.specs.Number.{valueOf}
 use lib.ListN.{length, drop}
 use Prim.Native.Nat.{_-_, _^_, _≤_}
 use mathlib.Core.Path.{_≡_, refl, sym, _∙_}
 use borrow.Author.Needs.{needs}
+use Rattle.cases.proofs.Laws.{value-next, value-end}
+use Rattle.cases.specs.Number.{valueOf}
 use Rattle.cases.proofs.value.Statement.{statement}
 use Rattle.cases.proofs.value.Tie as tie
 

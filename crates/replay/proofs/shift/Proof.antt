@@ -1,6 +1,5 @@
-use lib.ListN.{length-set}
+use lib.ListN.{length-set, length}
 use mathlib.Core.Path.{_≡_}
-use lib.ListN.{length}
 use Prim.Native.Nat.{_-_, _≤_}
 use borrow.Author.Needs.{needs}
 use Rattle.replay.proofs.shift.Statement.{statement}

@@ -1,8 +1,8 @@
 use denote.Ref.{now}
 use Prim.Native.Nat.{_+_}
-use Rattle.replay.proofs.Prefix.{counts}
 use native.Mathlib.Omega.{arith}
 use borrow.Author.Needs.{needs}
+use Rattle.replay.proofs.Prefix.{counts}
 use Rattle.replay.proofs.fields.bytes.Statement.{statement}
 use Rattle.replay.proofs.fields.bytes.Tie as tie
 

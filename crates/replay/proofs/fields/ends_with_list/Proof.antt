@@ -1,7 +1,7 @@
-use Rattle.replay.specs.Fields.{endsWithList}
 use borrow.Author.Tests.{lt-ltb, le-ltb}
 use native.Mathlib.Omega.{arith}
 use borrow.Author.Needs.{needs}
+use Rattle.replay.specs.Fields.{endsWithList}
 use Rattle.replay.proofs.fields.ends_with_list.Statement.{statement}
 use Rattle.replay.proofs.fields.ends_with_list.Tie as tie
 

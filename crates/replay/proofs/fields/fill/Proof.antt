@@ -1,8 +1,6 @@
-use lib.ListN.{length-set}
+use lib.ListN.{length-set, length}
 use mathlib.Core.Path.{_≡_}
-use lib.ListN.{length}
 use Prim.Native.Nat.{_-_, _≤_}
-use native.Mathlib.Omega.{arith}
 use borrow.Author.Needs.{needs}
 use Rattle.replay.proofs.fields.fill.Statement.{statement}
 use Rattle.replay.proofs.fields.fill.Tie as tie

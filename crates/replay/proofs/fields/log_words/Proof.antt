@@ -1,6 +1,6 @@
-use Rattle.replay.proofs.Prefix.{counts}
 use native.Mathlib.Omega.{arith}
 use borrow.Author.Needs.{needs}
+use Rattle.replay.proofs.Prefix.{counts}
 use Rattle.replay.proofs.fields.log_words.Statement.{statement}
 use Rattle.replay.proofs.fields.log_words.Tie as tie
 

@@ -1,11 +1,9 @@
-use mathlib.Core.Path.{refl}
-use lib.ListN.{length-set}
-use Rattle.replay.proofs.Prefix.{counts}
-use mathlib.Core.Path.{_≡_}
-use lib.ListN.{length}
+use mathlib.Core.Path.{refl, _≡_}
+use lib.ListN.{length-set, length}
 use Prim.Native.Nat.{_-_, _≤_}
 use native.Mathlib.Omega.{arith}
 use borrow.Author.Needs.{needs}
+use Rattle.replay.proofs.Prefix.{counts}
 use Rattle.replay.proofs.fields.parse.Statement.{statement}
 use Rattle.replay.proofs.fields.parse.Tie as tie
 

@@ -1,8 +1,8 @@
-use Rattle.io.specs.Counts.{Counts}
 use mathlib.Core.Path.{_≡_}
 use lib.ListN.{length}
-use Prim.Native.Nat.{_-_, _≤_}
+use Prim.Native.Nat.{_-_}
 use borrow.Author.Needs.{needs}
+use Rattle.io.specs.Counts.{Counts}
 use Rattle.replay.proofs.text.changes.Statement.{statement}
 use Rattle.replay.proofs.text.changes.Tie as tie
 

@@ -1,9 +1,8 @@
-use lib.ListN.{length-take}
-use lib.ListN.{length}
+use lib.ListN.{length-take, length}
 use denote.Ref.{now}
-use Rattle.replay.proofs.Prefix.{counts}
 use native.Mathlib.Omega.{arith}
 use borrow.Author.Needs.{needs}
+use Rattle.replay.proofs.Prefix.{counts}
 use Rattle.replay.proofs.text.put.Statement.{statement}
 use Rattle.replay.proofs.text.put.Tie as tie
 

@@ -1,4 +1,4 @@
-use Prim.Native.Nat.{_-_, _≤_}
+use Prim.Native.Nat.{_-_}
 use borrow.Author.Needs.{needs}
 use Rattle.replay.proofs.text.untouched.Statement.{statement}
 use Rattle.replay.proofs.text.untouched.Tie as tie
