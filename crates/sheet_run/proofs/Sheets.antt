@@ -1,19 +1,20 @@
 -- The words of a sheet in their buffers, and its run.
 use mathlib.Core.Path.{_≡_, refl, sym, ap, _∙_}
 use mathlib.Core.Bool.{Bool}
-use mathlib.Core.List.{List, [], _++_, append-nil}
-use Prim.Native.Nat.{ℕ, _+_, _-_, _*_, _≤_}
+use mathlib.Core.List.{List, [], _∷_, _++_, append-nil}
+use Prim.Native.Nat.{ℕ, zero, suc, _+_, _-_, _*_, _≤_}
 use native.Mathlib.Omega.{arith}
+use native.Mathlib.Nat.{suc-add, zero-add}
 use lib.Dec.{eqb}
 use lib.ListN.{length, take, drop, length-append, length-drop, drop-of-length-le}
-use lib.Seq.{take-append-seam, take-all, length-take-le}
+use lib.Seq.{take-append-seam, take-all, length-take-le, drop-drop}
 use Rattle.model.specs.State.{withMemory}
 use Rattle.access.specs.declared.progress.Progress.{Progress}
 use Rattle.access.specs.Of.{begun, withNumber}
 use Rattle.chain.specs.Transaction.{Transacts}
 use Rattle.sheet.specs.declared.Header.{Header}
 use Rattle.sheet.specs.declared.Opened.{Opened}
-use Rattle.sheet.specs.Words.{words}
+use Rattle.sheet.specs.Words.{wordAt, words}
 use Rattle.sheet.specs.Sheet.{sheet, parse, sheetOf, judged, recordCount, answerCount, memoryFrom, answersFrom}
 use Rattle.sheet.specs.Open.{headerOf, opened}
 use Rattle.sheet.proofs.WordLaws.{words-length}
@@ -42,6 +43,32 @@ read-words n zs ws rest {part} h e =
     let p : part ≡ words n ws = e ∙ ap (λ k. words k ws) (length-take-le n zs h) in
     let l : length (words n ws) ≡ n = words-length n ws in
     rw p (ap (λ k. take k (words n ws ++ rest)) (sym l) ∙ take-append-seam (words n ws) rest)
+
+-- the first n words, and those behind them
+words-front : (n a : ℕ) (bs : List ℕ) → take n (words (n + a) bs) ≡ words n bs
+words-front zero a bs = refl
+words-front (suc n) a bs = rw (suc-add n a) (ap (λ l. wordAt bs 0 ∷ l) (words-front n a (drop 4 bs)))
+
+words-behind : (n a : ℕ) (bs : List ℕ) → drop n (words (n + a) bs) ≡ words a (drop (4 * n) bs)
+words-behind zero a bs = rw (zero-add a) refl
+words-behind (suc n) a bs =
+    let e : 4 + 4 * n ≡ 4 * suc n = omega arith in
+    rw (suc-add n a) (words-behind n a (drop 4 bs) ∙ ap (words a) (drop-drop (4 * n) 4 bs ∙ ap (λ k. drop k bs) e))
+
+-- a slice that holds n + a words of the bytes: its length, the first n, and the a behind them
+module _ (n a : ℕ) (bs : List ℕ) {ws : List ℕ} (e : ws ≡ words (n + a) (drop 20 bs)) where
+  pub held-count : length ws ≡ n + a
+  held-count = ap length e ∙ words-length (n + a) (drop 20 bs)
+
+  pub held-front : take n ws ≡ words n (drop 20 bs)
+  held-front = rw e (words-front n a (drop 20 bs))
+
+  pub held-behind : take (length ws - n) (drop n ws) ≡ words a (drop (20 + 4 * n) bs)
+  held-behind =
+      let k : length ws - n ≡ a = omega (arith, held-count) in
+      let l : length (words a (drop (20 + 4 * n) bs)) ≡ a = words-length a (drop (20 + 4 * n) bs) in
+      let b : drop n ws ≡ words a (drop (20 + 4 * n) bs) = rw e (words-behind n a (drop 20 bs) ∙ ap (words a) (drop-drop (4 * n) 20 bs)) in
+      rw (k, b) (take-all a _ (omega (arith, l)))
 
 -- 13
 pub sheet-refused : (bs log : List ℕ) {p q : Progress} → opened bs ≡ Opened.Refused → p ≡ begun → q ≡ withNumber 13 p → RunsSheet bs log q log bs

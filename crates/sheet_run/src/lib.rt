@@ -1,4 +1,8 @@
 // The run of a sheet, whose memory is the end of its bytes.
+ghost use mathlib.Core.Path.{_≡_};
+ghost use Prim.Native.Nat.{_+_, _*_, _≤_};
+ghost use lib.ListN.{length, drop};
+ghost use Rattle.sheet.specs.Words.{words as Words·words};
 ghost use Rattle.sheet_run.specs.Run.{Heads, RunsSheet};
 use access::Progress;
 use config::number;
@@ -7,28 +11,48 @@ use sheet::Opened;
 
 pub mod print;
 
-// A sheet of this header.
-fn run_opened(bytes: &mut [u8], log: &mut [u32], h: Header) -> Progress
+// A sheet of this header, whose records and answers are these words.
+fn run_words(bytes: &mut [u8], log: &mut [u32], h: Header, words: &[u32]) -> Progress
     requires { ⌜ Heads (now bytes) h ⌝ }
+    requires { ⌜ now words ≡ Words·words (8 * h .records + h .answers) (drop 20 (now bytes)) ⌝ }
     ensures { λ r. ⌜ RunsSheet (now (bytes .entry)) (now (log .entry)) r (now (log .exit)) (now (bytes .exit)) ⌝ }
 {
-    let mut records = [0u32; 16384];
-    let mut answers = [0u32; 16384];
     let n = 8 * h.records;
-    let a = h.answers;
     let at = h.memory;
-    sheet::fill(bytes, 20, &mut records[..n]);
-    sheet::fill(bytes, 20 + 4 * n, &mut answers[..a]);
     chain::transact(
         h.limit,
         h.rate,
         h.qpi == 1,
         9,
         log,
-        &answers[..a],
+        &words[n..],
         &mut bytes[at..],
-        &records[..n],
+        &words[..n],
     )
+}
+
+// A sheet of this header; its records and answers are read into `room`.
+fn run_in(bytes: &mut [u8], log: &mut [u32], h: Header, room: &mut [u32]) -> Progress
+    requires { ⌜ Heads (now bytes) h ⌝ }
+    requires { ⌜ 8 * h .records + h .answers ≤ length (now room) ⌝ }
+    ensures { λ r. ⌜ RunsSheet (now (bytes .entry)) (now (log .entry)) r (now (log .exit)) (now (bytes .exit)) ⌝ }
+{
+    let all = 8 * h.records + h.answers;
+    sheet::fill(bytes, 20, &mut room[..all]);
+    run_words(bytes, log, h, &room[..all])
+}
+
+// A sheet of this header. The room for its words is small where that does: it is cleared for each sheet.
+fn run_opened(bytes: &mut [u8], log: &mut [u32], h: Header) -> Progress
+    requires { ⌜ Heads (now bytes) h ⌝ }
+    ensures { λ r. ⌜ RunsSheet (now (bytes .entry)) (now (log .entry)) r (now (log .exit)) (now (bytes .exit)) ⌝ }
+{
+    if 8 * h.records + h.answers <= 256 {
+        let mut room = [0u32; 256];
+        return run_in(bytes, log, h, &mut room);
+    }
+    let mut room = [0u32; 16384];
+    run_in(bytes, log, h, &mut room)
 }
 
 // Any bytes: 13, or the run of the sheet that they are.
