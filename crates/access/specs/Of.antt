@@ -44,5 +44,8 @@ begun = record { number = 0; entries = 0; taken = 0; tally = record { polls = 0;
 abbrev pub withNumber : ℕ → Progress → Progress
 withNumber n p = record { number = n; entries = p .entries; taken = p .taken; tally = p .tally }
 
+abbrev pub withCounts : ℕ → ℕ → Progress → Progress
+withCounts entries taken p = record { number = p .number; entries = entries; taken = taken; tally = p .tally }
+
 abbrev pub withTally : Tally → Progress → Progress
 withTally t p = record { number = p .number; entries = p .entries; taken = p .taken; tally = t }

@@ -6,7 +6,7 @@ ghost use Rattle.model.specs.Event.{actHead, actValue, askHead, said};
 ghost use Rattle.model.specs.Steps.End.{done};
 ghost use Rattle.model.specs.Steps.Steps.{end, act};
 ghost use Rattle.access.specs.Of.{actOf, askOf};
-ghost use Rattle.access.specs.Does.{Sound, Acts, Asks};
+ghost use Rattle.access.specs.Does.{Sound, Stops, Acts, Asks};
 use super::progress::Progress;
 use config::number;
 
@@ -90,26 +90,31 @@ fn log_entry(log: &mut [u32], entries: usize, head: u32, value: u32)
     log[at + 1] = value;
 }
 
+// The number that ends a call before its next entry: its own, or 10 where a log of so many words has no room for it; else 0.
+fn stopped(number: u32, entries: usize, words: usize) -> u32
+    ensures { λ r. ⌜ Stops number entries words r ⌝ }
+{
+    if number != 0 {
+        return number;
+    }
+    if words / 2 <= entries {
+        return number::LOG;
+    }
+    number::DONE
+}
+
 // An access that takes no answer; 10 where its entry does not fit.
 pub fn perform(progress: Progress, log: &mut [u32], access: Act) -> Progress
     requires { ⌜ Sound progress ⌝ }
     ensures { λ r. ⌜ Acts (act (actOf access) (end done)) progress (now (log .entry)) r (now (log .exit)) ⌝ }
 {
-    if progress.number != 0 {
-        return progress;
-    }
     let entries = progress.entries;
-    if log.len() / 2 <= entries {
-        return progress.ended(number::LOG);
+    let number = stopped(progress.number, entries, log.len());
+    if number != 0 {
+        return progress.ended(number);
     }
     log_entry(log, entries, access.head(), access.value());
-    let tally = progress.tally;
-    Progress {
-        number: progress.number,
-        entries: entries + 1,
-        taken: progress.taken,
-        tally,
-    }
+    progress.entered(entries + 1, progress.taken)
 }
 
 // An access that takes the next answer; 10 where its entry does not fit, else 11 where no answer is left.
@@ -117,13 +122,11 @@ pub fn query(progress: Progress, log: &mut [u32], answers: &[u32], access: Ask) 
     requires { ⌜ Sound progress ⌝ }
     ensures { λ r. ⌜ Asks (askOf access) (now (answers .entry)) progress (now (log .entry)) (r .progress) (now (log .exit)) (r .word) ⌝ }
 {
-    if progress.number != 0 {
-        return Answer { progress, word: 0 };
-    }
     let entries = progress.entries;
-    if log.len() / 2 <= entries {
+    let number = stopped(progress.number, entries, log.len());
+    if number != 0 {
         return Answer {
-            progress: progress.ended(number::LOG),
+            progress: progress.ended(number),
             word: 0,
         };
     }
@@ -136,15 +139,8 @@ pub fn query(progress: Progress, log: &mut [u32], answers: &[u32], access: Ask) 
     }
     let word = access.said(next.word);
     log_entry(log, entries, access.head(), word);
-    let tally = progress.tally;
-    let after = Progress {
-        number: progress.number,
-        entries: entries + 1,
-        taken: next.at,
-        tally,
-    };
     Answer {
-        progress: after,
+        progress: progress.entered(entries + 1, next.at),
         word,
     }
 }

@@ -2,7 +2,7 @@
 ghost use mathlib.Core.Path.{_≡_};
 ghost use Prim.Native.Nat.{_-_, _^_, _<_};
 ghost use Rattle.model.specs.Tally.{plus, pollTally};
-ghost use Rattle.access.specs.Of.{causeOf, tallyIn, begun, withNumber, withTally};
+ghost use Rattle.access.specs.Of.{causeOf, tallyIn, begun, withNumber, withCounts, withTally};
 
 // What a wait is for.
 pub enum Cause {
@@ -69,7 +69,7 @@ impl Progress {
         }
     }
 
-    // The progress with another number.
+    // The progress with another number. It is made field by field, here and below: so the compiler keeps it in registers.
     pub fn ended(self, number: u32) -> Progress
         ensures { λ r. ⌜ r ≡ withNumber number self ⌝ }
     {
@@ -78,7 +78,26 @@ impl Progress {
             number,
             entries: self.entries,
             taken: self.taken,
-            tally,
+            tally: Tally {
+                polls: tally.polls,
+                longest: tally.longest,
+            },
+        }
+    }
+
+    // The progress with other entries made and answers taken.
+    pub fn entered(self, entries: usize, taken: usize) -> Progress
+        ensures { λ r. ⌜ r ≡ withCounts entries taken self ⌝ }
+    {
+        let tally = self.tally;
+        Progress {
+            number: self.number,
+            entries,
+            taken,
+            tally: Tally {
+                polls: tally.polls,
+                longest: tally.longest,
+            },
         }
     }
 

@@ -15,7 +15,7 @@ use records::Verdict;
 pub mod record;
 
 // Runs a chain in which no fault was found with kinds up to `highest`.
-pub fn run_chain(
+fn run_chain(
     limit: u32,
     hz: u32,
     qpi: bool,

@@ -6,10 +6,13 @@ use access::Ask;
 use access::Progress;
 
 pub mod change;
+pub mod modes;
+pub mod phases;
 
 pub use change::Change;
+pub use modes::Lines;
 
-// Reads a register and writes what a change makes of its word.
+// Reads a register and writes what a change of an opening or a release makes of its word.
 pub fn modify(progress: Progress, log: &mut [u32], answers: &[u32], change: Change) -> Progress
     requires { ⌜ Sound progress ⌝ }
     ensures { λ r. ⌜ Works (changeOf change) (now (answers .entry)) progress (now (log .entry)) r (now (log .exit)) ⌝ }

@@ -3,6 +3,7 @@ ghost use mathlib.Core.Path.{_≡_};
 ghost use Rattle.clock_numbers.specs.Dividers.{kindOf, countOf, dividerOf, sckOf, Answered};
 use clock::DividerSelect;
 use clock::Sck;
+use config::number;
 
 // A divider by its numbers, if there is one.
 pub enum DividerFound {
@@ -54,7 +55,10 @@ pub fn count_of(divider: DividerSelect) -> u32
 pub fn actual_sck(pll: u32, mod_div: u32, kind: u32, count: u32) -> Rated
     ensures { λ r. ⌜ Answered (sckOf pll «mod_div» kind count) (r .number) (r .hz) ⌝ }
 {
-    let refused = Rated { number: 12, hz: 0 };
+    let refused = Rated {
+        number: number::DIVIDER,
+        hz: 0,
+    };
     if mod_div > 255 {
         return refused;
     }
@@ -66,5 +70,8 @@ pub fn actual_sck(pll: u32, mod_div: u32, kind: u32, count: u32) -> Rated
     let Sck::Rate(hz) = sck else {
         return refused;
     };
-    Rated { number: 0, hz }
+    Rated {
+        number: number::DONE,
+        hz,
+    }
 }

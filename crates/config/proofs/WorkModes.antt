@@ -4,9 +4,8 @@ use mathlib.Core.List.{List, [], _∷_}
 use Prim.Native.Nat.{ℕ, zero, suc, _≤_, _<_, suc-le-suc}
 use lib.ListN.{length, getD}
 use Rattle.config.specs.declared.config.WorkMode.{WorkMode}
-use Rattle.config.specs.declared.config.WorkMode.the-variants.{Standard, ThreeWire, Dual, DualIO, Quad, QuadIO, Qpi}
 use Rattle.config.specs.declared.config.WorkModeFound.the-variants.{Mode, Unknown}
-use Rattle.config.specs.Config.{modeAt, workModeOf, workModeNumber}
+use Rattle.config.specs.Config.{modeAt}
 
 -- within the list it is the element
 pub within : (ms : List WorkMode) (n : ℕ) (other : WorkMode) → n < length ms → Mode (getD ms n other) ≡ modeAt ms n
@@ -19,14 +18,3 @@ pub past-end : (ms : List WorkMode) (n : ℕ) → length ms ≤ n → Unknown �
 unfolding modeAt
 past-end [] n h = refl
 past-end (m ∷ ms) (suc n) (suc-le-suc h) = past-end ms n h
-
--- A mode's number leads back to it.
-pub number-back : (m : WorkMode) → workModeOf (workModeNumber m) ≡ Mode m
-unfolding modeAt
-number-back Standard = refl
-number-back ThreeWire = refl
-number-back Dual = refl
-number-back DualIO = refl
-number-back Quad = refl
-number-back QuadIO = refl
-number-back Qpi = refl

@@ -67,13 +67,3 @@ modeAt (m ∷ ms) (suc n) = modeAt ms n
 -- the mode of a number, 0 to 6
 abbrev pub workModeOf : ℕ → WorkModeFound
 workModeOf = modeAt workModes
-
--- the number of a mode: its place in `WorkMode` order
-abbrev pub workModeNumber : WorkMode → ℕ
-workModeNumber Standard = 0
-workModeNumber ThreeWire = 1
-workModeNumber Dual = 2
-workModeNumber DualIO = 3
-workModeNumber Quad = 4
-workModeNumber QuadIO = 5
-workModeNumber Qpi = 6

@@ -1,6 +1,6 @@
 // Configuration, from config.rs.
 ghost use mathlib.Core.Path.{_≡_};
-ghost use Rattle.config.specs.Config.{defaultConfig, norFlash, nandFlash, isQpi, workModeNumber, workModeOf};
+ghost use Rattle.config.specs.Config.{defaultConfig, norFlash, nandFlash, isQpi, workModeOf};
 use super::spi;
 use super::spi::Mode;
 use registers::CsLevel;
@@ -69,22 +69,7 @@ impl WorkMode {
         }
     }
 
-    // The mode's place in the order above, from 0.
-    pub fn number(self) -> u32
-        ensures { λ r. ⌜ r ≡ workModeNumber self ⌝ }
-    {
-        match self {
-            WorkMode::Standard => 0,
-            WorkMode::ThreeWire => 1,
-            WorkMode::Dual => 2,
-            WorkMode::DualIO => 3,
-            WorkMode::Quad => 4,
-            WorkMode::QuadIO => 5,
-            WorkMode::Qpi => 6,
-        }
-    }
-
-    // The mode at a place in the order above.
+    // The mode at a place in the order above, from 0.
     pub fn from_number(n: u32) -> WorkModeFound
         ensures { λ r. ⌜ r ≡ workModeOf n ⌝ }
     {

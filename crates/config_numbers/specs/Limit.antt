@@ -3,7 +3,7 @@ use mathlib.Core.Bool.{cond}
 use Prim.Native.Nat.{ℕ}
 use lib.Dec.{eqb}
 
--- unready polls in one wait that the Rust allows
+-- the Rust's limit (document 01: limit): the unready poll of this number in one wait gives 1
 abbrev pub defaultLimit : ℕ
 defaultLimit = 100_000
 

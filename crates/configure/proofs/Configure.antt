@@ -4,7 +4,8 @@ use mathlib.Core.Bool.{Bool, true, false, cond}
 use mathlib.Core.List.{List}
 use Prim.Native.Nat.{ℕ, _+_, _<_, min}
 use native.Mathlib.Omega.{arith}
-use Rattle.model.specs.Steps.{Steps, then}
+use Rattle.model.specs.Field.{setField}
+use Rattle.model.specs.Steps.{Steps, then, change}
 use Rattle.model.specs.Steps.End.{done}
 use Rattle.model.specs.Steps.Steps.{end}
 use Rattle.config.specs.declared.spi.Mode.{Mode}
@@ -17,8 +18,8 @@ use Rattle.clock.specs.declared.DividerSelect.the-variants.{Cdr1, Cdr2}
 use Rattle.access.specs.declared.progress.Progress.{Progress}
 use Rattle.access.specs.Does.{Sound, Works}
 use Rattle.access.proofs.Sequence.{nothing-done}
-use Rattle.setups.specs.declared.transfer.Transfer as transfer
-use Rattle.changes.specs.declared.change.Change as change
+use Rattle.setups.specs.declared.transfers.Transfer as transfer
+use Rattle.changes.specs.declared.change.Change as of
 use Rattle.changes.specs.Of.{changeOf}
 use Rattle.configure.specs.Steps.{clockDivider, transferFormat, busMode, workMode}
 use Rattle.configure.specs.Of.{dividerIn, csCtrlMode, busModeIn, lines, inBytes}
@@ -26,24 +27,24 @@ use Rattle.configure.specs.Of.{dividerIn, csCtrlMode, busModeIn, lines, 
 pub nothing-works : {answers : List ℕ} {p : Progress} {log : List ℕ} → Sound p → Works (end done) answers p log p log
 nothing-works few = record { sound = few; does = λ limit. nothing-done few }
 
-pub divides : (d : DividerSelect) → changeOf (change.the-variants.Controller (dividerIn d)) ≡ clockDivider d
+pub divides : (d : DividerSelect) → changeOf (of.the-variants.Controller (dividerIn d)) ≡ clockDivider d
 unfolding clockDivider
 divides (Cdr1 c) = refl
 divides (Cdr2 c) = refl
 
 pub formats : (mode : Mode) (cs : CsConfig) (lsb : Bool)
-    → changeOf (change.the-variants.Transfer (transfer.the-variants.Format (mode .phase) (mode .polarity) (csCtrlMode cs) lsb)) ≡ transferFormat mode cs lsb
+    → changeOf (of.the-variants.Transfer (transfer.the-variants.Format (mode .phase) (mode .polarity) (csCtrlMode cs) lsb)) ≡ transferFormat mode cs lsb
 unfolding transferFormat
 formats mode None lsb = refl
 formats mode (Some polarity level pin) lsb = refl
 
 module _ (mode : WorkMode) (bits : Bool) where
   abbrev pub first : Steps
-  first = changeOf (change.the-variants.Transfer (lines mode (busModeIn bits)))
+  first = changeOf (of.the-variants.Transfer (lines mode (busModeIn bits)))
 
   -- the steps of the code for a mode that is three-wire in bytes or not
   steps : Bool → Steps
-  steps b = cond b (then first (changeOf change.the-variants.ThreeWire)) first
+  steps b = cond b (then first (change 0x008 (setField 25 1 1))) first
 
 two-ways : (mode : WorkMode) (bits : Bool) → workMode mode bits ≡ steps mode bits (inBytes mode bits)
 unfolding workMode busMode steps
@@ -58,7 +59,7 @@ two-ways QuadIO bits = refl
 two-ways Qpi bits = refl
 
 module _ (mode : WorkMode) (bits : Bool) {b : Bool} (e : b ≡ inBytes mode bits) where
-  pub in-bytes : b ≡ true → workMode mode bits ≡ then (first mode bits) (changeOf change.the-variants.ThreeWire)
+  pub in-bytes : b ≡ true → workMode mode bits ≡ then (first mode bits) (change 0x008 (setField 25 1 1))
   unfolding steps
   in-bytes t = two-ways mode bits ∙ ap (steps mode bits) (sym e ∙ t)
 

@@ -12,8 +12,8 @@ use Rattle.clock.specs.declared.DividerSelect.{DividerSelect}
 use Rattle.clock.specs.declared.DividerSelect.the-variants.{Cdr1, Cdr2}
 use Rattle.setups.specs.declared.controller.Controller.{Controller}
 use Rattle.setups.specs.declared.controller.Controller as controller
-use Rattle.setups.specs.declared.transfer.Transfer.{Transfer}
-use Rattle.setups.specs.declared.transfer.Transfer as transfer
+use Rattle.setups.specs.declared.transfers.Transfer.{Transfer}
+use Rattle.setups.specs.declared.transfers.Transfer as transfer
 
 -- the change of a divider
 abbrev pub dividerIn : DividerSelect → Controller

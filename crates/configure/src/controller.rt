@@ -173,7 +173,7 @@ fn configure_work_mode(
     let lines = Change::Transfer(work_mode_lines(work_mode, bus_mode(bit_mode_en)));
     let lined = changes::modify(progress, log, answers, lines);
     if three_wire_bytes(work_mode, bit_mode_en) {
-        return changes::modify(lined, log, answers, Change::ThreeWire);
+        return changes::modes::set_three_wire(lined, log, answers, true);
     }
     lined
 }

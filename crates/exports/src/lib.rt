@@ -5,10 +5,10 @@ ghost use Rattle.config_numbers.specs.Limit.{defaultLimit};
 pub mod calls;
 pub mod clocks;
 pub mod open;
-pub mod sheet;
+pub mod sheets;
 pub mod transaction;
 
-// The limit of unready polls in one wait that the Rust has.
+// The Rust's limit: the unready poll of this number in one wait gives 1.
 #[no_mangle]
 pub extern "C" fn qspi_default_limit() -> u32
     ensures { λ r. ⌜ r ≡ defaultLimit ⌝ }

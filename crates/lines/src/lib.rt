@@ -1,6 +1,5 @@
 // The lines that a sheet prints, written into a lent buffer.
 ghost use mathlib.Core.Path.{_≡_};
-ghost use mathlib.Core.List.{[], _∷_};
 ghost use Prim.Native.Nat.{_+_, _*_, _≤_, _<_, _%_};
 ghost use lib.ListN.{length, take};
 ghost use Rattle.io.specs.Digits.{glyph};

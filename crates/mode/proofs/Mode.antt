@@ -3,7 +3,8 @@ use mathlib.Core.Path.{_≡_, refl, sym, ap, _∙_}
 use mathlib.Core.Bool.{Bool, true, false, cond}
 use mathlib.Core.List.{List}
 use Prim.Native.Nat.{ℕ}
-use Rattle.model.specs.Steps.{Steps, End, then, numberOf}
+use Rattle.model.specs.Field.{setField}
+use Rattle.model.specs.Steps.{Steps, End, then, change, numberOf}
 use Rattle.model.specs.Steps.Steps.{end}
 use Rattle.model.proofs.Advance.{ends, skipped}
 use Rattle.config.specs.Config.{isQpi}
@@ -12,14 +13,18 @@ use Rattle.config.specs.declared.config.WorkMode.the-variants.{Standard, ThreeW
 use Rattle.access.specs.declared.progress.Progress.{Progress}
 use Rattle.access.specs.Of.{stateOf, withNumber}
 use Rattle.access.specs.Does.{Sound, Works}
-use Rattle.changes.specs.Of.{changeOf}
+use Rattle.changes.specs.Of.{lined}
 use Rattle.mode.specs.Mode.{lines, qpiMode, modeChanges}
-use Rattle.mode.specs.Of.{dataLines, wires}
+use Rattle.mode.specs.Of.{dataLines, threeWire}
 
 module _ (qpi : Bool) (mode : WorkMode) where
+  -- the two changes of the code for a mode that is not QPI
+  abbrev pub two : Steps
+  two = then (change 0x038 (lined (dataLines mode))) (change 0x008 (setField 25 1 (cond (threeWire mode) 1 0)))
+
   -- the steps of the code for a mode that is QPI or not
   steps : Bool → Steps
-  steps b = cond b (qpiMode qpi) (then (changeOf (dataLines mode)) (changeOf (wires mode)))
+  steps b = cond b (qpiMode qpi) two
 
 two-ways : (qpi : Bool) (mode : WorkMode) → modeChanges qpi mode ≡ steps qpi mode (isQpi mode)
 unfolding modeChanges lines steps
@@ -36,7 +41,7 @@ module _ (qpi : Bool) (mode : WorkMode) {b : Bool} (e : b ≡ isQpi mode) where
   unfolding steps
   is-qpi t = two-ways qpi mode ∙ ap (steps qpi mode) (sym e ∙ t)
 
-  pub is-not : b ≡ false → modeChanges qpi mode ≡ then (changeOf (dataLines mode)) (changeOf (wires mode))
+  pub is-not : b ≡ false → modeChanges qpi mode ≡ two qpi mode
   unfolding steps
   is-not f = two-ways qpi mode ∙ ap (steps qpi mode) (sym e ∙ f)
 

@@ -1,23 +1,24 @@
--- The code's changes for a mode other than QPI.
-use Rattle.changes.specs.declared.change.Change.{Change}
-use Rattle.changes.specs.declared.change.Change as change
+-- The code's data lines of a mode, and whether it is three-wire. The row of QPI is not asked for.
+use mathlib.Core.Bool.{Bool, true, false}
+use Rattle.changes.specs.declared.modes.Lines.{Lines}
+use Rattle.changes.specs.declared.modes.Lines as of
 use Rattle.config.specs.declared.config.WorkMode.{WorkMode}
 use Rattle.config.specs.declared.config.WorkMode.the-variants.{Standard, ThreeWire, Dual, DualIO, Quad, QuadIO, Qpi}
 
-abbrev pub dataLines : WorkMode → Change
-dataLines Standard = change.the-variants.OneLine
-dataLines ThreeWire = change.the-variants.OneLine
-dataLines Dual = change.the-variants.TwoLines
-dataLines DualIO = change.the-variants.TwoLines
-dataLines Quad = change.the-variants.FourLines
-dataLines QuadIO = change.the-variants.FourLines
-dataLines Qpi = change.the-variants.Qpi
+abbrev pub dataLines : WorkMode → Lines
+dataLines Standard = of.the-variants.One
+dataLines ThreeWire = of.the-variants.One
+dataLines Dual = of.the-variants.Two
+dataLines DualIO = of.the-variants.Two
+dataLines Quad = of.the-variants.Four
+dataLines QuadIO = of.the-variants.Four
+dataLines Qpi = of.the-variants.Qpi
 
-abbrev pub wires : WorkMode → Change
-wires Standard = change.the-variants.NotThreeWire
-wires ThreeWire = change.the-variants.ThreeWire
-wires Dual = change.the-variants.NotThreeWire
-wires DualIO = change.the-variants.NotThreeWire
-wires Quad = change.the-variants.NotThreeWire
-wires QuadIO = change.the-variants.NotThreeWire
-wires Qpi = change.the-variants.NotThreeWire
+abbrev pub threeWire : WorkMode → Bool
+threeWire Standard = false
+threeWire ThreeWire = true
+threeWire Dual = false
+threeWire DualIO = false
+threeWire Quad = false
+threeWire QuadIO = false
+threeWire Qpi = false

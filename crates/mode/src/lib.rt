@@ -3,39 +3,39 @@ ghost use mathlib.Core.Path.{_≡_};
 ghost use Prim.Native.Nat.{_<_};
 ghost use Rattle.access.specs.Does.{Sound, Does, Works};
 ghost use Rattle.mode.specs.Mode.{qpiMode, workMode};
-ghost use Rattle.mode.specs.Of.{dataLines, wires};
+ghost use Rattle.mode.specs.Of.{dataLines, threeWire};
 use access::Progress;
-use changes::Change;
+use changes::Lines;
 use config::WorkMode;
 use config::number;
 
 // The data lines of a mode.
-fn data_lines(mode: WorkMode) -> Change
+fn data_lines(mode: WorkMode) -> Lines
     ensures { λ r. ⌜ r ≡ dataLines mode ⌝ }
 {
     match mode {
-        WorkMode::Standard => Change::OneLine,
-        WorkMode::ThreeWire => Change::OneLine,
-        WorkMode::Dual => Change::TwoLines,
-        WorkMode::DualIO => Change::TwoLines,
-        WorkMode::Quad => Change::FourLines,
-        WorkMode::QuadIO => Change::FourLines,
-        WorkMode::Qpi => Change::Qpi,
+        WorkMode::Standard => Lines::One,
+        WorkMode::ThreeWire => Lines::One,
+        WorkMode::Dual => Lines::Two,
+        WorkMode::DualIO => Lines::Two,
+        WorkMode::Quad => Lines::Four,
+        WorkMode::QuadIO => Lines::Four,
+        WorkMode::Qpi => Lines::Qpi,
     }
 }
 
 // Three-wire or not.
-fn three_wire(mode: WorkMode) -> Change
-    ensures { λ r. ⌜ r ≡ wires mode ⌝ }
+fn three_wire(mode: WorkMode) -> bool
+    ensures { λ r. ⌜ r ≡ threeWire mode ⌝ }
 {
     match mode {
-        WorkMode::Standard => Change::NotThreeWire,
-        WorkMode::ThreeWire => Change::ThreeWire,
-        WorkMode::Dual => Change::NotThreeWire,
-        WorkMode::DualIO => Change::NotThreeWire,
-        WorkMode::Quad => Change::NotThreeWire,
-        WorkMode::QuadIO => Change::NotThreeWire,
-        WorkMode::Qpi => Change::NotThreeWire,
+        WorkMode::Standard => false,
+        WorkMode::ThreeWire => true,
+        WorkMode::Dual => false,
+        WorkMode::DualIO => false,
+        WorkMode::Quad => false,
+        WorkMode::QuadIO => false,
+        WorkMode::Qpi => false,
     }
 }
 
@@ -45,7 +45,7 @@ fn set_qpi_mode(qpi: bool, progress: Progress, log: &mut [u32], answers: &[u32])
     ensures { λ r. ⌜ Works (qpiMode qpi) (now (answers .entry)) progress (now (log .entry)) r (now (log .exit)) ⌝ }
 {
     if qpi {
-        return changes::modify(progress, log, answers, Change::Qpi);
+        return changes::modes::set_lines(progress, log, answers, Lines::Qpi);
     }
     let number = progress.number;
     if number != 0 {
@@ -71,6 +71,6 @@ pub fn set_work_mode(
     if mode.is_qpi() {
         return set_qpi_mode(qpi, idle, log, answers);
     }
-    let lined = changes::modify(idle, log, answers, data_lines(mode));
-    changes::modify(lined, log, answers, three_wire(mode))
+    let lined = changes::modes::set_lines(idle, log, answers, data_lines(mode));
+    changes::modes::set_three_wire(lined, log, answers, three_wire(mode))
 }

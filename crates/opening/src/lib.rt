@@ -40,7 +40,7 @@ fn rate(pll: u32, mod_div: u8, divider: DividerSelect) -> u32
 }
 
 // The steps of an opening, from a progress on: `new` after its tests and its choice of clock.
-pub fn new(
+fn new(
     progress: Progress,
     log: &mut [u32],
     answers: &[u32],
@@ -126,7 +126,7 @@ pub fn open(
 }
 
 // Disables the clock of an instance and resets its module, from a progress on.
-pub fn release(progress: Progress, log: &mut [u32], answers: &[u32], instance: u32) -> Progress
+fn release(progress: Progress, log: &mut [u32], answers: &[u32], instance: u32) -> Progress
     requires { ⌜ Sound progress ⌝ }
     ensures { λ r. ⌜ Works (releaseSteps instance) (now (answers .entry)) progress (now (log .entry)) r (now (log .exit)) ⌝ }
 {

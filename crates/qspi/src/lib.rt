@@ -1,5 +1,5 @@
 // The phases of a transfer on an answered register block, from blocking.rs: counts, bytes, phases.
-pub mod counts;
 pub mod phase;
+pub mod transfer_counts;
 
-pub use counts::TransferCounts;
+pub use transfer_counts::TransferCounts;

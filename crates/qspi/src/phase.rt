@@ -7,19 +7,18 @@ ghost use Rattle.model.specs.Wait.Cause.{space, received};
 ghost use Rattle.access.specs.Does.{Sound, Acts, Does, Works, Runs, Gets};
 ghost use Rattle.qspi.specs.Phases.{resetFifos, programTransfer, startTransfer, beginTransfer, movedAll, paced, gots, txPhase, rxPhase};
 ghost use Rattle.qspi.specs.Phases.Move.{sent};
-use super::counts::TransferCounts;
+use super::transfer_counts::TransferCounts;
 use access::Act;
 use access::Ask;
 use access::Cause;
 use access::Progress;
-use changes::Change;
 
 // Resets both FIFOs before a new transfer.
 pub fn reset_fifos(progress: Progress, log: &mut [u32], answers: &[u32]) -> Progress
     requires { ⌜ Sound progress ⌝ }
     ensures { λ r. ⌜ Works resetFifos (now (answers .entry)) progress (now (log .entry)) r (now (log .exit)) ⌝ }
 {
-    let reset = changes::modify(progress, log, answers, Change::ResetFifos);
+    let reset = changes::phases::reset_both_fifos(progress, log, answers);
     access::entry::perform(reset, log, Act::Delay(10))
 }
 
@@ -33,13 +32,14 @@ fn program_transfer(
     requires { ⌜ Sound progress ⌝ }
     ensures { λ r. ⌜ Works (programTransfer (counts .total) (counts .tx) (counts .«single_line_tx») (counts .«hardware_dummy»)) (now (answers .entry)) progress (now (log .entry)) r (now (log .exit)) ⌝ }
 {
-    let first = changes::modify(progress, log, answers, Change::TotalBytes(counts.total));
-    let second = changes::modify(first, log, answers, Change::TxCount(counts.tx));
-    changes::modify(
+    let first = changes::phases::set_total_bytes(progress, log, answers, counts.total);
+    let second = changes::phases::set_tx_cnt(first, log, answers, counts.tx);
+    changes::phases::set_single_line(
         second,
         log,
         answers,
-        Change::SingleLine(counts.single_line_tx, counts.hardware_dummy),
+        counts.single_line_tx,
+        counts.hardware_dummy,
     )
 }
 
@@ -48,7 +48,7 @@ fn start_transfer(progress: Progress, log: &mut [u32], answers: &[u32]) -> Progr
     requires { ⌜ Sound progress ⌝ }
     ensures { λ r. ⌜ Works startTransfer (now (answers .entry)) progress (now (log .entry)) r (now (log .exit)) ⌝ }
 {
-    changes::modify(progress, log, answers, Change::Start)
+    changes::phases::set_start(progress, log, answers)
 }
 
 fn begin_transfer(

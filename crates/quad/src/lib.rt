@@ -6,7 +6,6 @@ ghost use lib.Dec.{eqb};
 ghost use lib.ListN.{length, take};
 ghost use Rattle.qspi.specs.Phases.{txPhase, rxPhase};
 ghost use Rattle.clock.specs.Dummies.{dummies};
-ghost use Rattle.mode.specs.Mode.{workMode};
 ghost use Rattle.access.specs.Does.{Sound, Does, Runs};
 ghost use Rattle.quad.specs.Quad.{framed, quadStart, quadSteps};
 ghost use Rattle.quad.specs.Frames.{Closes};

@@ -1,20 +1,20 @@
 // Registers of the QSPI controller and of its module clock: fields as shifts and masks.
 pub mod cmu;
-pub mod qspi;
+pub mod controller;
 pub mod setting;
 
 pub use cmu::NormalModuleClock;
-pub use qspi::BitModeTransConfig;
-pub use qspi::ClkConfig;
-pub use qspi::Config;
-pub use qspi::FifoControl;
-pub use qspi::FifoStatus;
-pub use qspi::IntControl;
-pub use qspi::IntStatus;
-pub use qspi::TotalBytesCnt;
-pub use qspi::TransCnt;
-pub use qspi::TransMiscControl;
-pub use qspi::TransferConfig;
+pub use controller::BitModeTransConfig;
+pub use controller::ClkConfig;
+pub use controller::Config;
+pub use controller::FifoControl;
+pub use controller::FifoStatus;
+pub use controller::IntControl;
+pub use controller::IntStatus;
+pub use controller::TotalBytesCnt;
+pub use controller::TransCnt;
+pub use controller::TransMiscControl;
+pub use controller::TransferConfig;
 pub use setting::BusMode;
 pub use setting::ClockDivSel;
 pub use setting::CsCtrlMode;

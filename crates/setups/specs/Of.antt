@@ -7,8 +7,8 @@ use Rattle.setups.specs.declared.clock_word.ClockWord.{ClockWord}
 use Rattle.setups.specs.declared.clock_word.ClockWord as clock
 use Rattle.setups.specs.declared.controller.Controller.{Controller}
 use Rattle.setups.specs.declared.controller.Controller.the-variants.{Reset, Cdr1, Cdr2, On, InterruptsOff, Fifos, InterruptsCleared}
-use Rattle.setups.specs.declared.transfer.Transfer.{Transfer}
-use Rattle.setups.specs.declared.transfer.Transfer.the-variants.{Format, ChipSelect, Sampling, Bus, Dual, Quad, Qpi}
+use Rattle.setups.specs.declared.transfers.Transfer.{Transfer}
+use Rattle.setups.specs.declared.transfers.Transfer.the-variants.{Format, ChipSelect, Sampling, Bus, Dual, Quad, Qpi}
 
 -- the clock word: divider in bits 0 to 4, clock enable bit 8, bus enable 12, reset released 13
 abbrev pub clockWord : ClockWord → ℕ → ℕ

@@ -2,7 +2,7 @@
 ghost use mathlib.Core.Path.{_≡_};
 ghost use Prim.Native.Nat.{_<_};
 ghost use Rattle.model.specs.Wait.{placeOf, countOf, ready};
-ghost use Rattle.model.specs.Wait.Cause.{space, received, empty, start};
+ghost use Rattle.model.specs.Wait.Cause.{empty, start};
 ghost use Rattle.model.specs.Steps.{waitFor};
 ghost use Rattle.access.specs.Of.{causeOf};
 ghost use Rattle.access.specs.Does.{Sound, Does};
@@ -77,7 +77,7 @@ fn poll_until_ready(
 ) -> Waited
     requires { ⌜ Sound progress ⌝ }
     requires { ⌜ 0 < limit ⌝ }
-    ensures { λ r. ⌜ Waits (causeOf cause) (limit) (now (answers .entry)) progress (now (log .entry)) (r .progress) (now (log .exit)) (r .count) ⌝ }
+    ensures { λ r. ⌜ Waits (causeOf cause) limit (now (answers .entry)) progress (now (log .entry)) (r .progress) (now (log .exit)) (r .count) ⌝ }
 {
     let mut current = progress;
     let mut unready: u32 = 0;

@@ -4,24 +4,19 @@ use Rattle.answers.specs.Taken.{takenAt}
 use Rattle.answers.proofs.taken_at.Statement.{statement}
 use Rattle.answers.proofs.taken_at.Tie as tie
 
--- src/lib.rt:25:19
 mul-t6 : tie.Need-mul-t6
 mul-t6 c = search needs
 
--- src/lib.rt:25:19
 shared-slice-read-t8 : tie.Need-shared-slice-read-t8
 shared-slice-read-t8 c = search needs
 
--- src/lib.rt:26:17
 add-t9 : tie.Need-add-t9
 add-t9 c = search needs
 
--- src/lib.rt:19:1
 returns : tie.Need-returns
 unfolding takenAt
 returns c = simp (lt-ltb _ _ (c .before .if1 .taken))
 
--- src/lib.rt:19:1
 returns-2 : tie.Need-returns-2
 unfolding takenAt
 returns-2 c = simp (le-ltb _ _ (c .if1 .left))

@@ -5,15 +5,15 @@ use borrow.Author.Needs.{needs}
 use Rattle.mode.proofs.set_qpi_mode.Statement.{statement}
 use Rattle.mode.proofs.set_qpi_mode.Tie as tie
 
-modify-requires : tie.Need-modify-requires
-modify-requires c κs = search needs
+set-lines-requires : tie.Need-set-lines-requires
+set-lines-requires c κs = search needs
 
 same-length : tie.Need-same-length
 same-length c = search needs
 
 returns : tie.Need-returns
 unfolding qpiMode
-returns c = let changed = c .before .before in rw (changed .before .before .if1 .taken) (changed .modify .ensures)
+returns c = let changed = c .before .before in rw (changed .before .before .if1 .taken) (changed .set-lines .ensures)
 
 returns-2 : tie.Need-returns-2
 unfolding qpiMode
@@ -28,4 +28,4 @@ returns-3 c = rw (c .before .before .if1 .left, c .ended .ensures) (works-end un
 
 pub set-qpi-mode-spec : {M : Type 1} → statement M
 set-qpi-mode-spec =
-    tie.close (tie.spec modify-requires same-length returns returns-2 ended-requires returns-3)
+    tie.close (tie.spec set-lines-requires same-length returns returns-2 ended-requires returns-3)

@@ -29,14 +29,14 @@ returns c =
 data-lines-requires : tie.Need-data-lines-requires
 data-lines-requires c κs = search needs
 
-modify-requires : tie.Need-modify-requires
-modify-requires c κs = search needs
+set-lines-requires : tie.Need-set-lines-requires
+set-lines-requires c κs = search needs
 
 three-wire-requires : tie.Need-three-wire-requires
 three-wire-requires c κs = search needs
 
-modify-requires-2 : tie.Need-modify-requires-2
-modify-requires-2 c κs = search needs
+set-three-wire-requires : tie.Need-set-three-wire-requires
+set-three-wire-requires c κs = search needs
 
 same-length-2 : tie.Need-same-length-2
 same-length-2 c = search needs
@@ -53,7 +53,7 @@ returns-2 c =
     let idle = asked .before .before .before in
     then-does (idle .wait-transfer-done .ensures)
     (rw (is-not _ _ (asked .is-qpi .ensures) (test .if1 .left))
-    (then-works (rw (lines .data-lines .ensures) at (lined .modify .ensures)) (rw (three .three-wire .ensures) at (wired .modify2 .ensures)) .does _))
+    (then-works (rw (lines .data-lines .ensures) at (lined .set-lines .ensures)) (rw (three .three-wire .ensures) at (wired .set-three-wire .ensures)) .does _))
 
 pub set-work-mode-spec : {M : Type 1} → statement M
 set-work-mode-spec =
@@ -65,8 +65,8 @@ set-work-mode-spec =
     same-length
     returns
     data-lines-requires
-    modify-requires
+    set-lines-requires
     three-wire-requires
-    modify-requires-2
+    set-three-wire-requires
     same-length-2
     returns-2)

@@ -41,7 +41,7 @@ module _ {M : Type 1} (𝓤 : URA M) (H : Heap 𝓤) (A : Atoms 𝓤) (W : Given
   abbrev at : Met 𝓤 H A wait.ended (wait.clauses 𝓤 H A mem run) .Ghost
   at = (((κ, κs), (q, qs), tt, a, vs), tt)
 
-  -- what `wait_core`'s triple binds outside, and what it says
+  -- what `wait_by_value`'s triple binds outside, and what it says
   abbrev to : Met 𝓤 H A core.ended (core.clauses 𝓤 H A mem run) .Ghost
   to = ((κs, qs, tt, (h, m), (T′.lowered h ∷ [], vals m)), tt)
 

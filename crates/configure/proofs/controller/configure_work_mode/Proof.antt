@@ -16,8 +16,8 @@ modify-requires c κs = search needs
 three-wire-bytes-requires : tie.Need-three-wire-bytes-requires
 three-wire-bytes-requires c κs = search needs
 
-modify-requires-2 : tie.Need-modify-requires-2
-modify-requires-2 c κs = search needs
+set-three-wire-requires : tie.Need-set-three-wire-requires
+set-three-wire-requires c κs = search needs
 
 same-length : tie.Need-same-length
 same-length c = search needs
@@ -30,7 +30,7 @@ returns c =
     let lined = asked .before .before .before in
     let lines = lined .before .before in
     rw (in-bytes _ _ (asked .three-wire-bytes .ensures) (test .if1 .taken))
-    (then-works (rw (lines .work-mode-lines .ensures, lines .before .bus-mode .ensures) at (lined .modify .ensures)) (wired .modify2 .ensures))
+    (then-works (rw (lines .work-mode-lines .ensures, lines .before .bus-mode .ensures) at (lined .modify .ensures)) (wired .set-three-wire .ensures))
 
 same-length-2 : tie.Need-same-length-2
 same-length-2 c = search needs
@@ -51,7 +51,7 @@ configure-work-mode-spec =
     work-mode-lines-requires
     modify-requires
     three-wire-bytes-requires
-    modify-requires-2
+    set-three-wire-requires
     same-length
     returns
     same-length-2

@@ -4,8 +4,8 @@ use borrow.Author.Needs.{needs}
 use Rattle.qspi.proofs.phase.reset_fifos.Statement.{statement}
 use Rattle.qspi.proofs.phase.reset_fifos.Tie as tie
 
-modify-requires : tie.Need-modify-requires
-modify-requires c κs = search needs
+reset-both-fifos-requires : tie.Need-reset-both-fifos-requires
+reset-both-fifos-requires c κs = search needs
 
 perform-requires : tie.Need-perform-requires
 perform-requires c κs = search needs
@@ -18,7 +18,7 @@ unfolding resetFifos
 returns c =
     let waited = c .before .before in
     let changed = waited .before .before .before .before in
-    then-works (changed .modify .ensures) (acts-works (waited .perform .ensures))
+    then-works (changed .reset-both-fifos .ensures) (acts-works (waited .perform .ensures))
 
 pub reset-fifos-spec : {M : Type 1} → statement M
-reset-fifos-spec = tie.close (tie.spec modify-requires perform-requires same-length returns)
+reset-fifos-spec = tie.close (tie.spec reset-both-fifos-requires perform-requires same-length returns)

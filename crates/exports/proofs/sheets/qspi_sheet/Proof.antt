@@ -1,0 +1,23 @@
+use Rattle.exports.proofs.Counts.{sheet-gives}
+use borrow.Author.Needs.{needs}
+use Rattle.exports.proofs.sheets.qspi_sheet.Statement.{statement}
+use Rattle.exports.proofs.sheets.qspi_sheet.Tie as tie
+
+run-requires : tie.Need-run-requires
+run-requires c κs = search needs
+
+tell-requires : tie.Need-tell-requires
+tell-requires c κs = search needs
+
+same-length : tie.Need-same-length
+same-length c = search needs
+
+same-length-2 : tie.Need-same-length-2
+same-length-2 c = search needs
+
+returns : tie.Need-returns
+returns c = sheet-gives (c .tell .ensures) (c .before .before .before .before .before .before .before .before .before .run .ensures)
+
+pub qspi-sheet-spec : {M : Type 1} → statement M
+qspi-sheet-spec =
+    tie.close (tie.spec run-requires tell-requires same-length same-length-2 returns)
