@@ -42,13 +42,18 @@ fn run_in(bytes: &mut [u8], log: &mut [u32], h: Header, room: &mut [u32]) -> Pro
     run_words(bytes, log, h, &room[..all])
 }
 
-// A sheet of this header. The room for its words is small where that does: it is cleared for each sheet.
+// A sheet of this header. The room for its words is cleared for each sheet, so a small sheet gets a small one.
 fn run_opened(bytes: &mut [u8], log: &mut [u32], h: Header) -> Progress
     requires { ⌜ Heads (now bytes) h ⌝ }
     ensures { λ r. ⌜ RunsSheet (now (bytes .entry)) (now (log .entry)) r (now (log .exit)) (now (bytes .exit)) ⌝ }
 {
-    if 8 * h.records + h.answers <= 256 {
-        let mut room = [0u32; 256];
+    let all = 8 * h.records + h.answers;
+    if all <= 64 {
+        let mut room = [0u32; 64];
+        return run_in(bytes, log, h, &mut room);
+    }
+    if all <= 1024 {
+        let mut room = [0u32; 1024];
         return run_in(bytes, log, h, &mut room);
     }
     let mut room = [0u32; 16384];
