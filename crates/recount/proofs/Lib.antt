@@ -1,0 +1,3 @@
+pub mod Paired
+pub mod Calls
+pub mod Recount
