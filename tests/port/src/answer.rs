@@ -153,7 +153,7 @@ fn inplace(w: &mut Words, out: &mut String) -> Result<(), String> {
 
 fn mode(w: &mut Words, out: &mut String) -> Result<(), String> {
     let (limit, log_words) = (w.u32()?, w.usize()?);
-    let (qpi, mode) = (w.up_to(1)? == 1, w.u32()?);
+    let (qpi, mode) = (w.flag()?, w.u32()?);
     call(limit, log_words, w, out, |lent| {
         by_number::set_work_mode(lent, qpi, mode)
     })
@@ -238,7 +238,7 @@ fn print(w: &mut Words, out: &mut String) -> Result<(), String> {
 }
 
 /// Answers one case line.
-pub fn answer(line: &str, out: &mut String) -> Result<(), String> {
+fn answer(line: &str, out: &mut String) -> Result<(), String> {
     let w = &mut Words::new(line);
     let name = w.name()?;
     match CASES.iter().find(|(known, _)| *known == name) {
