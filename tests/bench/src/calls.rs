@@ -33,20 +33,13 @@ where
     fn row(mut self, name: &str, room: usize) {
         let (limit, answers): (u32, &'static [u32]) = (LIMIT, vec![READY; room].leak());
         let (mut one, mut two) = (vec![1; 2 * room], vec![1; 2 * room]);
-        let a = Answered {
-            limit,
-            room,
-            answers,
-        };
+        let a = Answered { limit, room, answers };
         let ends = [
             (self.lean)(&mut Lent::new(limit, &mut one, answers)),
             (self.port)(&mut Lent::new(limit, &mut two, answers)),
             (self.recorded)(a),
         ];
-        assert!(
-            ends[0].0 == 0 && ends.iter().all(|e| *e == ends[0]),
-            "{name}: {ends:?}"
-        );
+        assert!(ends[0].0 == 0 && ends.iter().all(|e| *e == ends[0]), "{name}: {ends:?}");
         assert!(one == two, "{name}: the logs differ");
         let [lean, port, recorded] = best([
             &mut || _ = black_box((self.lean)(&mut Lent::new(limit, &mut one, answers))),
@@ -65,17 +58,9 @@ fn room(bytes: usize) -> usize {
 fn write_row(length: usize) {
     let bytes: &[u8] = &vec![0x5A; length];
     Sides {
-        lean: |l: &mut Lent| {
-            lean(l, || {
-                lean_driver::calls::call(0, Call::Write(black_box(bytes)))
-            })
-        },
+        lean: |l: &mut Lent| lean(l, || lean_driver::calls::call(0, Call::Write(black_box(bytes)))),
         port: |l: &mut Lent| library::write(l, black_box(bytes)),
-        recorded: |a| {
-            recorded(a, || {
-                d13x::calls::call(0, Recorded::Write(black_box(bytes)))
-            })
-        },
+        recorded: |a| recorded(a, || d13x::calls::call(0, Recorded::Write(black_box(bytes)))),
     }
     .row(&format!("write, {length} B"), room(length));
 }
@@ -83,17 +68,9 @@ fn write_row(length: usize) {
 fn read_row(length: usize) {
     let [mut one, mut two, mut three] = [(); 3].map(|()| vec![0x5A; length]);
     Sides {
-        lean: |l: &mut Lent| {
-            lean(l, || {
-                lean_driver::calls::call(0, Call::Read(black_box(&mut one)))
-            })
-        },
+        lean: |l: &mut Lent| lean(l, || lean_driver::calls::call(0, Call::Read(black_box(&mut one)))),
         port: |l: &mut Lent| library::read(l, black_box(&mut two)),
-        recorded: |a| {
-            recorded(a, || {
-                d13x::calls::call(0, Recorded::Read(black_box(&mut three)))
-            })
-        },
+        recorded: |a| recorded(a, || d13x::calls::call(0, Recorded::Read(black_box(&mut three)))),
     }
     .row(&format!("read, {length} B"), room(length));
     assert!(one == two, "the bytes differ");
@@ -104,29 +81,16 @@ fn quad_row(length: usize) {
     let (command, (rate, tclqv_ns, margin)) = ([0x6B, 1, 2, 3], QUAD);
     Sides {
         lean: |l: &mut Lent| {
-            let call = Call::QuadRead {
-                command: &command,
-                tclqv_ns,
-                margin,
-                data: black_box(&mut one),
-            };
+            let call = Call::QuadRead { command: &command, tclqv_ns, margin, data: black_box(&mut one) };
             lean(l, || lean_driver::calls::call(rate, call))
         },
         port: |l: &mut Lent| library::read_quad(l, &command, black_box(&mut two)),
         recorded: |a| {
-            let call = Recorded::QuadRead {
-                command: &command,
-                tclqv_ns,
-                margin,
-                data: black_box(&mut three),
-            };
+            let call = Recorded::QuadRead { command: &command, tclqv_ns, margin, data: black_box(&mut three) };
             recorded(a, || d13x::calls::call(rate, call))
         },
     }
-    .row(
-        &format!("quad read, {length} B, command 4 B"),
-        room(length) + 60,
-    );
+    .row(&format!("quad read, {length} B, command 4 B"), room(length) + 60);
     assert!(one == two, "the bytes differ");
 }
 

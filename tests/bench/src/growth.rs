@@ -19,18 +19,11 @@ fn per_entry(
 ) -> [f64; 2] {
     let limit = 100_000;
     let (mut one, mut two) = (vec![1; 2 * entries], vec![1; 2 * entries]);
-    let ends = [
-        rust(&mut Lent::new(limit, &mut one, answers)),
-        port(&mut Lent::new(limit, &mut two, answers)),
-    ];
-    assert!(
-        ends[0] == ends[1] && ends[0].1.entries == entries && one == two,
-        "{ends:?}"
-    );
-    best([
-        &mut || _ = black_box(rust(&mut Lent::new(limit, &mut one, answers))),
-        &mut || _ = black_box(port(&mut Lent::new(limit, &mut two, answers))),
-    ])
+    let ends = [rust(&mut Lent::new(limit, &mut one, answers)), port(&mut Lent::new(limit, &mut two, answers))];
+    assert!(ends[0] == ends[1] && ends[0].1.entries == entries && one == two, "{ends:?}");
+    best([&mut || _ = black_box(rust(&mut Lent::new(limit, &mut one, answers))), &mut || {
+        _ = black_box(port(&mut Lent::new(limit, &mut two, answers)))
+    }])
     .map(|t| t * 1e3 / entries as f64)
 }
 
@@ -48,11 +41,7 @@ fn write(entries: usize) -> [f64; 2] {
     per_entry(
         made,
         &vec![READY; entries],
-        |l| {
-            lean(l, || {
-                lean_driver::calls::call(0, Call::Write(black_box(&bytes)))
-            })
-        },
+        |l| lean(l, || lean_driver::calls::call(0, Call::Write(black_box(&bytes)))),
         |l| library::write(l, black_box(&bytes)),
     )
 }
@@ -63,11 +52,7 @@ fn read(entries: usize) -> [f64; 2] {
     per_entry(
         made,
         &vec![READY; entries],
-        |l| {
-            lean(l, || {
-                lean_driver::calls::call(0, Call::Read(black_box(&mut one)))
-            })
-        },
+        |l| lean(l, || lean_driver::calls::call(0, Call::Read(black_box(&mut one)))),
         |l| library::read(l, black_box(&mut two)),
     )
 }
@@ -82,18 +67,11 @@ fn polls(entries: usize) -> [f64; 2] {
 
 /// The shortest phase makes more than ten entries.
 fn row(entries: usize) {
-    let phases = if entries < 15 {
-        Vec::new()
-    } else {
-        [write(entries), read(entries)].concat()
-    };
+    let phases = if entries < 15 { Vec::new() } else { [write(entries), read(entries)].concat() };
     let times = phases.iter().map(|t| format!("{t:.2}"));
     let cells: Vec<String> = times.chain(["–"; 4].map(String::from)).take(4).collect();
     let [rust, port] = polls(entries);
-    println!(
-        "| {entries} | {} | {rust:.2} | {port:.2} |",
-        cells.join(" | ")
-    );
+    println!("| {entries} | {} | {rust:.2} | {port:.2} |", cells.join(" | "));
 }
 
 /// Nanoseconds of the hint that the Rust gives between two polls, and the port does not.
@@ -103,8 +81,6 @@ fn hint() -> f64 {
 }
 
 pub fn rows() {
-    [10, 20, 100, 1000, 4000, 10_000, 40_000]
-        .into_iter()
-        .for_each(row);
+    [10, 20, 100, 1000, 4000, 10_000, 40_000].into_iter().for_each(row);
     println!("\nspin_loop alone: {:.2} ns", hint());
 }

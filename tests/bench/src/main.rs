@@ -21,21 +21,15 @@ use std::io::Write;
 fn main() {
     if std::env::args().nth(1).as_deref() == Some("--sheet") {
         // The sheet of which tests/bench/stack measures the stack.
-        std::io::stdout()
-            .write_all(&sheets::of_bytes())
-            .expect("standard output is open");
+        std::io::stdout().write_all(&sheets::of_bytes()).expect("standard output is open");
         return;
     }
-    println!(
-        "| call | Rust, lean cells, µs | port, µs | port : Rust | Rust, oracle's recorder, µs |"
-    );
+    println!("| call | Rust, lean cells, µs | port, µs | port : Rust | Rust, oracle's recorder, µs |");
     println!("|---|---|---|---|---|");
     calls::rows();
     sheets::rows();
     clock::rows();
-    println!(
-        "\n| entries | write, Rust | write, port | read, Rust | read, port | polls, Rust | polls, port |"
-    );
+    println!("\n| entries | write, Rust | write, port | read, Rust | read, port | polls, Rust | polls, port |");
     println!("|---|---|---|---|---|---|---|");
     growth::rows();
 }

@@ -15,9 +15,7 @@ fn round(f: &mut dyn FnMut(), calls: usize) -> f64 {
 
 /// Microseconds a call for each side: the best of all rounds. The sides take turns, so that noise meets all of them.
 pub fn best<const N: usize>(mut sides: [&mut dyn FnMut(); N]) -> [f64; N] {
-    let calls = sides
-        .each_mut()
-        .map(|f| (ROUND / round(f, 3).max(1e-9)).ceil() as usize);
+    let calls = sides.each_mut().map(|f| (ROUND / round(f, 3).max(1e-9)).ceil() as usize);
     let mut best = [f64::MAX; N];
     for _ in 0..ROUNDS {
         for i in 0..N {
@@ -30,8 +28,5 @@ pub fn best<const N: usize>(mut sides: [&mut dyn FnMut(); N]) -> [f64; N] {
 /// One row of the first table; not every row has an oracle's recorder.
 pub fn row(name: &str, lean: f64, port: f64, recorded: Option<f64>) {
     let recorded = recorded.map_or(String::from("–"), |r| format!("{r:.3}"));
-    println!(
-        "| {name} | {lean:.3} | {port:.3} | {:.2} | {recorded} |",
-        port / lean
-    );
+    println!("| {name} | {lean:.3} | {port:.3} | {:.2} | {recorded} |", port / lean);
 }

@@ -96,12 +96,7 @@ fn record(r: &Record, qpi: bool, rate: u32, memory: &mut [u8]) -> How {
         5 => Call::DelayNs(f1),
         6 => Call::Flush,
         7 => Call::Mode(f1),
-        8 => Call::QuadRead {
-            command: &sent,
-            tclqv_ns: f3,
-            margin: f4 as u8,
-            data: &mut memory[window(f5, f6)],
-        },
+        8 => Call::QuadRead { command: &sent, tclqv_ns: f3, margin: f4 as u8, data: &mut memory[window(f5, f6)] },
         _ => Call::QuadWrite(&sent, &data),
     };
     call(qpi, rate, asked)

@@ -47,13 +47,7 @@ pub struct Plan {
 
 impl Plan {
     pub fn new(unready: &[u64], portion: u32, seed: u64) -> Self {
-        Plan {
-            unready: unready.to_vec(),
-            portion,
-            random: Random(seed),
-            waits: 0,
-            cause: Cause::Start,
-        }
+        Plan { unready: unready.to_vec(), portion, random: Random(seed), waits: 0, cause: Cause::Start }
     }
 
     /// The answer that the plan has for a read or a byte got.
@@ -100,9 +94,5 @@ fn cause(record: &Record, place: u32) -> Cause {
         return Cause::Received;
     }
     let sent = log[at..].iter().filter(|e| e.op == 3).count();
-    if sent < length {
-        Cause::Space
-    } else {
-        Cause::Empty
-    }
+    if sent < length { Cause::Space } else { Cause::Empty }
 }

@@ -17,10 +17,7 @@ struct Lent {
 
 impl Lent {
     fn read(w: &mut Words) -> Result<Self, String> {
-        Ok(Lent {
-            limit: u64::from(w.u32()?),
-            log_words: w.usize()?,
-        })
+        Ok(Lent { limit: u64::from(w.u32()?), log_words: w.usize()? })
     }
 
     /// The last words of every call's case: the answers. The run begins with them.
@@ -44,11 +41,7 @@ impl Lent {
 
 /// The chip with QPI or the one without.
 pub(crate) fn call(qpi: bool, rate: u32, c: Call<'_>) -> How {
-    if qpi {
-        d13x::calls::call(rate, c)
-    } else {
-        d21x::calls::call(rate, c)
-    }
+    if qpi { d13x::calls::call(rate, c) } else { d21x::calls::call(rate, c) }
 }
 
 /// The log and the end line. A panic has a line of its own in place of the end line.
@@ -59,13 +52,7 @@ fn ended(how: &How, out: &mut String) {
         let letter = char::from(b"rwbgd"[usize::from(e.op) - 1]);
         writeln!(out, "{letter} {:04x} {:08x}", e.place, e.value).unwrap();
     }
-    let counts = format!(
-        "{} {} {} {}",
-        record.log.len(),
-        record.answers.len(),
-        record.polls,
-        record.longest
-    );
+    let counts = format!("{} {} {} {}", record.log.len(), record.answers.len(), record.polls, record.longest);
     match how {
         How::Number(n) => writeln!(out, "end {n} {counts}"),
         How::Panic(said) => writeln!(out, "panic {counts} {said}"),
@@ -130,17 +117,7 @@ fn on_a_bus(name: &str, w: &mut Words, out: &mut String) -> Result<(), String> {
             let buffer = w.bytes()?;
             lent.begin(w)?;
             let read = name == "read";
-            receiving(buffer, out, |b| {
-                call(
-                    true,
-                    0,
-                    if read {
-                        Call::Read(b)
-                    } else {
-                        Call::InPlace(b)
-                    },
-                )
-            });
+            receiving(buffer, out, |b| call(true, 0, if read { Call::Read(b) } else { Call::InPlace(b) }));
         }
         "transfer" => {
             let buffer = w.bytes()?;
@@ -167,16 +144,7 @@ fn on_a_bus(name: &str, w: &mut Words, out: &mut String) -> Result<(), String> {
             lent.begin(w)?;
             receiving(buffer, out, |data| {
                 let command = &command;
-                call(
-                    true,
-                    rate,
-                    Call::QuadRead {
-                        command,
-                        tclqv_ns,
-                        margin,
-                        data,
-                    },
-                )
+                call(true, rate, Call::QuadRead { command, tclqv_ns, margin, data })
             });
         }
         "quadwrite" => {
@@ -221,11 +189,7 @@ fn open(w: &mut Words, out: &mut String) -> Result<(), String> {
     let qpi = w.flag()?;
     let lent = Lent::read(w)?;
     lent.begin(w)?;
-    let (how, rate) = if qpi {
-        d13x::calls::open(&o)
-    } else {
-        d21x::calls::open(&o)
-    };
+    let (how, rate) = if qpi { d13x::calls::open(&o) } else { d21x::calls::open(&o) };
     ended(&how, out);
     writeln!(out, "rate {rate}").unwrap();
     Ok(())
@@ -233,10 +197,7 @@ fn open(w: &mut Words, out: &mut String) -> Result<(), String> {
 
 fn free(w: &mut Words, out: &mut String) -> Result<(), String> {
     let instance = w.u32()?;
-    let lent = Lent {
-        limit: 1,
-        log_words: w.usize()?,
-    };
+    let lent = Lent { limit: 1, log_words: w.usize()? };
     lent.begin(w)?;
     ended(&d13x::calls::free(instance), out);
     Ok(())
@@ -269,12 +230,7 @@ fn sck(w: &mut Words, out: &mut String) -> Result<(), String> {
 fn dummy(w: &mut Words, out: &mut String) -> Result<(), String> {
     let (rate, tclqv_ns, margin) = (w.u32()?, w.u32()?, w.up_to(255)? as u8);
     w.end()?;
-    writeln!(
-        out,
-        "dummy {}",
-        d13x::calls::dummy_bytes_for(rate, tclqv_ns, margin)
-    )
-    .unwrap();
+    writeln!(out, "dummy {}", d13x::calls::dummy_bytes_for(rate, tclqv_ns, margin)).unwrap();
     Ok(())
 }
 
@@ -293,10 +249,7 @@ fn sheet(w: &mut Words, memory: bool, out: &mut String) -> Result<(), String> {
         writeln!(out, "refused").unwrap();
         return Ok(());
     };
-    let lent = Lent {
-        limit: u64::from(s.limit),
-        log_words: SHEET_LOG_WORDS,
-    };
+    let lent = Lent { limit: u64::from(s.limit), log_words: SHEET_LOG_WORDS };
     lent.begin_with(s.answers);
     let how = run(&chain, s.qpi, s.rate, &mut bytes[s.memory..]);
     ended(&how, out);

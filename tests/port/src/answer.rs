@@ -43,11 +43,7 @@ fn call(
     let answers = w.list()?;
     w.end()?;
     let mut log = vec![UNTOUCHED; log_words];
-    let e = f(&mut Lent {
-        limit,
-        log: &mut log,
-        answers: &answers,
-    });
+    let e = f(&mut Lent { limit, log: &mut log, answers: &answers });
     ended(e, &log, out)
 }
 
@@ -105,9 +101,7 @@ fn open(w: &mut Words, out: &mut String) -> Result<(), String> {
 
 fn free(w: &mut Words, out: &mut String) -> Result<(), String> {
     let (instance, log_words) = (w.u32()?, w.usize()?);
-    call(1, log_words, w, out, |lent| {
-        qspi::free(lent.log, lent.answers, instance)
-    })
+    call(1, log_words, w, out, |lent| qspi::free(lent.log, lent.answers, instance))
 }
 
 fn write(w: &mut Words, out: &mut String) -> Result<(), String> {
@@ -118,9 +112,7 @@ fn write(w: &mut Words, out: &mut String) -> Result<(), String> {
 fn read(w: &mut Words, out: &mut String) -> Result<(), String> {
     let (limit, log_words, mut bytes) = (w.u32()?, w.usize()?, w.bytes()?);
     let given = bytes.clone();
-    call(limit, log_words, w, out, |lent| {
-        qspi::read(lent, &mut bytes)
-    })?;
+    call(limit, log_words, w, out, |lent| qspi::read(lent, &mut bytes))?;
     changes(&given, &bytes, out);
     Ok(())
 }
@@ -129,9 +121,7 @@ fn transfer(w: &mut Words, out: &mut String) -> Result<(), String> {
     let (limit, log_words) = (w.u32()?, w.usize()?);
     let (mut bytes, sent) = (w.bytes()?, w.bytes()?);
     let given = bytes.clone();
-    call(limit, log_words, w, out, |lent| {
-        qspi::transfer(lent, &mut bytes, &sent)
-    })?;
+    call(limit, log_words, w, out, |lent| qspi::transfer(lent, &mut bytes, &sent))?;
     changes(&given, &bytes, out);
     Ok(())
 }
@@ -144,9 +134,7 @@ fn flush(w: &mut Words, out: &mut String) -> Result<(), String> {
 fn inplace(w: &mut Words, out: &mut String) -> Result<(), String> {
     let (limit, log_words, mut bytes) = (w.u32()?, w.usize()?, w.bytes()?);
     let given = bytes.clone();
-    call(limit, log_words, w, out, |lent| {
-        qspi::transfer_in_place(lent, &mut bytes)
-    })?;
+    call(limit, log_words, w, out, |lent| qspi::transfer_in_place(lent, &mut bytes))?;
     changes(&given, &bytes, out);
     Ok(())
 }
@@ -154,9 +142,7 @@ fn inplace(w: &mut Words, out: &mut String) -> Result<(), String> {
 fn mode(w: &mut Words, out: &mut String) -> Result<(), String> {
     let (limit, log_words) = (w.u32()?, w.usize()?);
     let (qpi, mode) = (w.flag()?, w.u32()?);
-    call(limit, log_words, w, out, |lent| {
-        by_number::set_work_mode(lent, qpi, mode)
-    })
+    call(limit, log_words, w, out, |lent| by_number::set_work_mode(lent, qpi, mode))
 }
 
 fn quadread(w: &mut Words, out: &mut String) -> Result<(), String> {
@@ -165,15 +151,8 @@ fn quadread(w: &mut Words, out: &mut String) -> Result<(), String> {
     let (tclqv_ns, margin) = (w.u32()?, w.up_to(255)? as u8);
     let mut bytes = w.bytes()?;
     let given = bytes.clone();
-    let asked = qspi::QuadRead {
-        hz,
-        command: &command,
-        tclqv_ns,
-        margin,
-    };
-    call(limit, log_words, w, out, |lent| {
-        qspi::read_quad(lent, &asked, &mut bytes)
-    })?;
+    let asked = qspi::QuadRead { hz, command: &command, tclqv_ns, margin };
+    call(limit, log_words, w, out, |lent| qspi::read_quad(lent, &asked, &mut bytes))?;
     changes(&given, &bytes, out);
     Ok(())
 }
@@ -181,18 +160,14 @@ fn quadread(w: &mut Words, out: &mut String) -> Result<(), String> {
 fn quadwrite(w: &mut Words, out: &mut String) -> Result<(), String> {
     let (limit, log_words) = (w.u32()?, w.usize()?);
     let (command, data) = (w.bytes()?, w.bytes()?);
-    call(limit, log_words, w, out, |lent| {
-        qspi::write_quad(lent, &command, &data)
-    })
+    call(limit, log_words, w, out, |lent| qspi::write_quad(lent, &command, &data))
 }
 
 fn transaction(w: &mut Words, out: &mut String) -> Result<(), String> {
     let (limit, log_words) = (w.u32()?, w.usize()?);
     let (records, mut memory) = (w.list()?, w.bytes()?);
     let given = memory.clone();
-    call(limit, log_words, w, out, |lent| {
-        qspi::transaction(lent, &mut memory, &records)
-    })?;
+    call(limit, log_words, w, out, |lent| qspi::transaction(lent, &mut memory, &records))?;
     changes(&given, &memory, out);
     Ok(())
 }
@@ -270,10 +245,7 @@ mod tests {
 
     /// A case of each name, and the last line of its answer.
     const ONE_OF_EACH: [(&str, &str); 16] = [
-        (
-            "open 2 0 1 0 0 0 0 0 0 0 10000000 1200000000 24000000 0 1 9 0",
-            "rate 0",
-        ),
+        ("open 2 0 1 0 0 0 0 0 0 0 10000000 1200000000 24000000 0 1 9 0", "rate 0"),
         ("free 0 4 1 0xffffffff", "end 0 2 1 0 0"),
         ("write 0 10 1 0 0", "end 7 0 0 0 0"),
         ("read 1 40 1 0 8 1 1 1 1 1 1 1 1", "m 00000000 01"),

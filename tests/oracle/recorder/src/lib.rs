@@ -81,10 +81,7 @@ impl Recorder {
         if self.record.log.len() >= self.capacity {
             return Err(Cut(10));
         }
-        let asked = Asked {
-            place,
-            poll: if op == 1 { self.wait } else { None },
-        };
+        let asked = Asked { place, poll: if op == 1 { self.wait } else { None } };
         let source = self.source.as_mut().expect("no run was begun");
         let answer = source(&self.record, asked).ok_or(Cut(11))?;
         self.record.answers.push(answer);
