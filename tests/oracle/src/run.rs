@@ -96,73 +96,86 @@ pub fn answer(line: &str, out: &mut String) -> Result<(), String> {
     match w.name()? {
         "open" => open(w, out),
         "free" => free(w, out),
+        "write" => write(w, out),
+        "read" => read(w, out),
+        "inplace" => inplace(w, out),
+        "transfer" => transfer(w, out),
+        "flush" => flush(w, out),
+        "mode" => mode(w, out),
+        "quadread" => quadread(w, out),
+        "quadwrite" => quadwrite(w, out),
+        "transaction" => transaction(w, out),
         "clock" => clock(w, out),
         "sck" => sck(w, out),
         "dummy" => dummy(w, out),
         "sheet" => sheet(w, true, out),
         "print" => sheet(w, false, out),
-        name => on_a_bus(name, w, out),
+        name => Err(format!("{name} is no case")),
     }
 }
 
-fn on_a_bus(name: &str, w: &mut Words, out: &mut String) -> Result<(), String> {
-    let lent = Lent::read(w)?;
-    match name {
-        "write" => {
-            let bytes = w.bytes()?;
-            lent.begin(w)?;
-            ended(&call(true, 0, Call::Write(&bytes)), out);
-        }
-        "read" | "inplace" => {
-            let buffer = w.bytes()?;
-            lent.begin(w)?;
-            let read = name == "read";
-            receiving(buffer, out, |b| call(true, 0, if read { Call::Read(b) } else { Call::InPlace(b) }));
-        }
-        "transfer" => {
-            let buffer = w.bytes()?;
-            let sent = w.bytes()?;
-            lent.begin(w)?;
-            receiving(buffer, out, |b| call(true, 0, Call::Transfer(b, &sent)));
-        }
-        "flush" => {
-            lent.begin(w)?;
-            ended(&call(true, 0, Call::Flush), out);
-        }
-        "mode" => {
-            let qpi = w.flag()?;
-            let mode = w.up_to(6)?;
-            lent.begin(w)?;
-            ended(&call(qpi, 0, Call::Mode(mode)), out);
-        }
-        "quadread" => {
-            let rate = w.u32()?;
-            let command = w.bytes()?;
-            let tclqv_ns = w.u32()?;
-            let margin = w.up_to(255)? as u8;
-            let buffer = w.bytes()?;
-            lent.begin(w)?;
-            receiving(buffer, out, |data| {
-                let command = &command;
-                call(true, rate, Call::QuadRead { command, tclqv_ns, margin, data })
-            });
-        }
-        "quadwrite" => {
-            let command = w.bytes()?;
-            let data = w.bytes()?;
-            lent.begin(w)?;
-            ended(&call(true, 0, Call::QuadWrite(&command, &data)), out);
-        }
-        "transaction" => {
-            let records = w.list()?;
-            let memory = w.bytes()?;
-            lent.begin(w)?;
-            match chain(&records, OF_TRANSACTIONS, memory.len()) {
-                Some(chain) => receiving(memory, out, |m| run(&chain, true, 0, m)),
-                None => writeln!(out, "refused").unwrap(),
-            }
-        }
-        _ => return Err(format!("{name} is no case")),
+fn write(w: &mut Words, out: &mut String) -> Result<(), String> {
+    let (lent, bytes) = (Lent::read(w)?, w.bytes()?);
+    lent.begin(w)?;
+    ended(&call(true, 0, Call::Write(&bytes)), out);
+    Ok(())
+}
+
+fn read(w: &mut Words, out: &mut String) -> Result<(), String> {
+    let (lent, buffer) = (Lent::read(w)?, w.bytes()?);
+    lent.begin(w)?;
+    receiving(buffer, out, |b| call(true, 0, Call::Read(b)));
+    Ok(())
+}
+
+fn inplace(w: &mut Words, out: &mut String) -> Result<(), String> {
+    let (lent, buffer) = (Lent::read(w)?, w.bytes()?);
+    lent.begin(w)?;
+    receiving(buffer, out, |b| call(true, 0, Call::InPlace(b)));
+    Ok(())
+}
+
+fn transfer(w: &mut Words, out: &mut String) -> Result<(), String> {
+    let (lent, buffer, sent) = (Lent::read(w)?, w.bytes()?, w.bytes()?);
+    lent.begin(w)?;
+    receiving(buffer, out, |b| call(true, 0, Call::Transfer(b, &sent)));
+    Ok(())
+}
+
+fn flush(w: &mut Words, out: &mut String) -> Result<(), String> {
+    Lent::read(w)?.begin(w)?;
+    ended(&call(true, 0, Call::Flush), out);
+    Ok(())
+}
+
+fn mode(w: &mut Words, out: &mut String) -> Result<(), String> {
+    let (lent, qpi, mode) = (Lent::read(w)?, w.flag()?, w.up_to(6)?);
+    lent.begin(w)?;
+    ended(&call(qpi, 0, Call::Mode(mode)), out);
+    Ok(())
+}
+
+fn quadread(w: &mut Words, out: &mut String) -> Result<(), String> {
+    let (lent, rate, command) = (Lent::read(w)?, w.u32()?, &w.bytes()?);
+    let (tclqv_ns, margin, buffer) = (w.u32()?, w.up_to(255)? as u8, w.bytes()?);
+    lent.begin(w)?;
+    receiving(buffer, out, |data| call(true, rate, Call::QuadRead { command, tclqv_ns, margin, data }));
+    Ok(())
+}
+
+fn quadwrite(w: &mut Words, out: &mut String) -> Result<(), String> {
+    let (lent, command, data) = (Lent::read(w)?, w.bytes()?, w.bytes()?);
+    lent.begin(w)?;
+    ended(&call(true, 0, Call::QuadWrite(&command, &data)), out);
+    Ok(())
+}
+
+fn transaction(w: &mut Words, out: &mut String) -> Result<(), String> {
+    let (lent, records, memory) = (Lent::read(w)?, w.list()?, w.bytes()?);
+    lent.begin(w)?;
+    match chain(&records, OF_TRANSACTIONS, memory.len()) {
+        Some(chain) => receiving(memory, out, |m| run(&chain, true, 0, m)),
+        None => writeln!(out, "refused").unwrap(),
     }
     Ok(())
 }

@@ -61,8 +61,8 @@ impl List {
 const LIMITS: [u64; 5] = [1, 2, 3, 5, 100_000];
 const LENGTHS: [usize; 10] = [0, 1, 2, 63, 64, 65, 255, 256, 257, 512];
 
-/// Writes, reads, transfers and in-place calls: every length ready, every wait slow, short ones cut everywhere.
-fn transfers(l: &mut List) {
+/// Writes, reads, transfers and in-place calls of every length, every wait ready.
+fn ready_transfers(l: &mut List) {
     for length in LENGTHS {
         let bytes = l.bytes(length);
         let sized = format!("{length} 0");
@@ -74,6 +74,10 @@ fn transfers(l: &mut List) {
             l.planned("transfer 5", ENOUGH, &format!("{sized} {bytes}"), &plan);
         }
     }
+}
+
+/// Writes, reads and transfers with one wait slow or timed out.
+fn slow_transfers(l: &mut List) {
     for limit in LIMITS {
         for slow in [0, 1, 2, 3, 4] {
             let waits: Vec<u64> = (0..6).map(|i| if i == slow { limit.min(5) } else { 0 }).collect();
@@ -86,6 +90,10 @@ fn transfers(l: &mut List) {
             }
         }
     }
+}
+
+/// Writes and reads cut everywhere, and an in-place call cut in each of its parts and in each half of them.
+fn cut_transfers(l: &mut List) {
     let (bytes, plan) = (l.bytes(3), l.plan(&[1, 0], 2));
     let odd: Vec<usize> = (0..46).collect();
     let few: Vec<usize> = (0..14).collect();
@@ -95,7 +103,6 @@ fn transfers(l: &mut List) {
     let wide = l.plan(&[0], 255);
     l.planned("read 3", ENOUGH, "300 0", &wide);
     l.cut("read 3", "4 4 1 2 3 4", &wide, &[24, 26, 28, 30], &[]);
-    // In place, cut in each of its parts and in each half of them.
     let (bytes, plan) = (l.bytes(300), l.plan(&[0], 200));
     l.cut(
         "inplace 2",
@@ -129,8 +136,8 @@ fn modes(l: &mut List) {
     }
 }
 
-/// Quad calls: every part slow, failing before, in and after the data, and cut.
-fn quads(l: &mut List) {
+/// Quad calls with one wait slow or timed out: before, in and after the data.
+fn slow_quads(l: &mut List) {
     for limit in [1, 2, 3, 100_000] {
         for slow in 0..8 {
             let waits: Vec<u64> = (0..10).map(|i| if i == slow { limit.min(4) } else { 0 }).collect();
@@ -140,23 +147,19 @@ fn quads(l: &mut List) {
             l.planned(&format!("quadwrite {limit}"), ENOUGH, &format!("{command} {data}"), &plan);
         }
     }
-    // The data times out and Standard is still tried: it succeeds, is cut, or times out too.
+}
+
+/// Quad calls whose data times out, and Standard is still tried: it succeeds or is cut.
+fn cut_quads(l: &mut List) {
     let waits = [0, 0, 0, 0, 2, 0];
     let (command, plan) = (l.bytes(1), Plan::new(&waits, 64, 3));
-    l.cut(
-        "quadread 2",
-        &format!("1000000 {command} 0 0 2 0"),
-        &plan,
-        &[58, 60, 62, 64, 66, 68, 70],
-        &[16, 17, 18, 19, 20, 21],
-    );
-    l.cut(
-        "quadwrite 2",
-        &format!("{command} 2 2 1 2"),
-        &plan,
-        &[58, 60, 62, 64, 66, 68, 70],
-        &[16, 17, 18, 19, 20, 21],
-    );
+    let (log, answers) = ([58, 60, 62, 64, 66, 68, 70], [16, 17, 18, 19, 20, 21]);
+    l.cut("quadread 2", &format!("1000000 {command} 0 0 2 0"), &plan, &log, &answers);
+    l.cut("quadwrite 2", &format!("{command} 2 2 1 2"), &plan, &log, &answers);
+}
+
+/// Quad calls with every wait ready: commands that are cut for the dummies, short and empty ones.
+fn ready_quads(l: &mut List) {
     for (length, tclqv, margin) in [
         (0, 0, 0),
         (20, 0, 0),
@@ -250,7 +253,7 @@ fn sheets(l: &mut List) {
     }
 }
 
-/// Openings of every kind, and releases.
+/// Openings of every kind, and one that is cut.
 fn openings(l: &mut List) {
     let plan = Plan::new(&[0], 64, 11);
     for instance in 0..4 {
@@ -273,6 +276,10 @@ fn openings(l: &mut List) {
     let log: Vec<usize> = (0..66).step_by(3).collect();
     let few: Vec<usize> = (0..15).collect();
     l.cut(head, "", &plan, &log, &few);
+}
+
+fn releases(l: &mut List) {
+    let plan = Plan::new(&[0], 64, 11);
     for instance in [0, 1, 2, 3, 4, 200] {
         l.planned(&format!("free {instance}"), 4, "", &plan);
         l.planned(&format!("free {instance}"), 3, "", &plan);
@@ -281,7 +288,7 @@ fn openings(l: &mut List) {
     l.call("free 0 4 0");
 }
 
-/// Clock choices, rates and dummies at ties and edges.
+/// Clock choices and rates at ties and edges.
 fn clocks(l: &mut List) {
     let plls = [
         0,
@@ -307,6 +314,10 @@ fn clocks(l: &mut List) {
         l.call(&format!("sck 1200000000 {m} {kind} {c}"));
         l.call(&format!("sck 4294967295 {m} {kind} {c}"));
     }
+}
+
+/// Dummies at ties and edges.
+fn dummies(l: &mut List) {
     for tclqv in [0, 1, 79, 80, 81, 20_399, 20_400, 20_401, 20_480, 20_481, u32::MAX] {
         for (rate, margin) in
             [(0, 0), (1, 0), (100_000_000, 0), (100_000_000, 1), (100_000_000, 3), (100_000_000, 255), (u32::MAX, 0)]
@@ -318,13 +329,11 @@ fn clocks(l: &mut List) {
 
 fn main() {
     let mut l = List { cases: Vec::new(), random: Random(1) };
-    transfers(&mut l);
-    modes(&mut l);
-    quads(&mut l);
-    chains(&mut l);
-    openings(&mut l);
-    clocks(&mut l);
-    sheets(&mut l);
+    let parts = [
+        ready_transfers, slow_transfers, cut_transfers, modes, slow_quads, cut_quads, ready_quads, chains, openings,
+        releases, clocks, dummies, sheets,
+    ];
+    parts.iter().for_each(|part| part(&mut l));
     for case in &l.cases {
         let mut text = String::new();
         answer(case, &mut text).unwrap_or_else(|why| panic!("{case}: {why}"));
