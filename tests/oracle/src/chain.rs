@@ -39,7 +39,7 @@ const KINDS: [Kind; 9] = [
 
 /// The records along the chain, or nothing where document 01 refuses it (8 or 9): the Rust has no such thing.
 pub fn chain(words: &[u32], highest: u32, memory: usize) -> Option<Vec<Record>> {
-    if words.len() % 8 != 0 {
+    if !words.len().is_multiple_of(8) {
         return None;
     }
     let records: Vec<Record> = words.chunks(8).map(|r| r.try_into().unwrap()).collect();

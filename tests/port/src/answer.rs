@@ -1,5 +1,6 @@
 //! One case: read, run, written.
 
+use crate::lines::answer_each;
 use crate::program;
 use crate::words::Words;
 use qspi::{Ended, Lent, by_number};
@@ -222,21 +223,9 @@ fn answer(line: &str, out: &mut String) -> Result<(), String> {
     }
 }
 
-/// Answers every case of the input: its lines, then a line with one full stop.
-pub fn answer_all(input: impl BufRead, mut output: impl Write) -> io::Result<()> {
-    for line in input.lines() {
-        let line = line?;
-        if line.trim().is_empty() || line.starts_with('#') {
-            continue;
-        }
-        let mut text = String::new();
-        match answer(&line, &mut text) {
-            Ok(()) => output.write_all(text.as_bytes())?,
-            Err(why) => writeln!(output, "error {why}")?,
-        }
-        output.write_all(b".\n")?;
-    }
-    output.flush()
+/// Answers every case of the input.
+pub fn answer_all(input: impl BufRead, output: impl Write) -> io::Result<()> {
+    answer_each(input, output, answer)
 }
 
 #[cfg(test)]

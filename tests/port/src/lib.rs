@@ -2,6 +2,8 @@
 #![forbid(unsafe_code)]
 
 mod answer;
+#[path = "../../oracle/src/lines.rs"]
+mod lines;
 mod program;
 #[path = "../../oracle/src/words.rs"]
 mod words;

@@ -191,13 +191,18 @@ pub fn countdown() -> Countdown {
 impl SubAssign<u64> for Countdown {
     fn sub_assign(&mut self, one: u64) {
         self.left -= one;
-        RECORDER.with(|r| {
-            let r = &mut *r.borrow_mut();
-            let unready = r.wait.unwrap_or(0) + 1;
-            r.wait = Some(unready);
-            r.record.longest = r.record.longest.max(unready);
-        })
+        unready();
     }
+}
+
+/// Counts an unready poll of the wait under way.
+fn unready() {
+    RECORDER.with(|r| {
+        let r = &mut *r.borrow_mut();
+        let unready = r.wait.unwrap_or(0) + 1;
+        r.wait = Some(unready);
+        r.record.longest = r.record.longest.max(unready);
+    })
 }
 
 impl PartialEq<u64> for Countdown {

@@ -41,7 +41,7 @@ impl List {
     }
 
     fn plan(&mut self, unready: &[u64], portion: u32) -> Plan {
-        Plan::new(unready, portion, self.random.next())
+        Plan::new(unready, portion, self.random.number())
     }
 
     /// `LENGTH GIVEN b1 ..`: all bytes given.
