@@ -42,9 +42,9 @@ pub fn flush(l: &mut Lent) -> Ended {
     ended(library::flush(&mut lent(l)))
 }
 
-/// A quad read at 50 MHz with tclqv 8 ns and margin 1.
-pub fn read_quad(l: &mut Lent, command: &[u8], data: &mut [u8]) -> Ended {
-    let asked = library::QuadRead { hz: 50_000_000, command, tclqv_ns: 8, margin: 1 };
+/// A quad read at a rate, with tclqv and margin.
+pub fn read_quad(l: &mut Lent, (hz, tclqv_ns, margin): (u32, u32, u8), command: &[u8], data: &mut [u8]) -> Ended {
+    let asked = library::QuadRead { hz, command, tclqv_ns, margin };
     ended(library::read_quad(&mut lent(l), &asked, data))
 }
 

@@ -1,4 +1,4 @@
-//! The best of some rounds, the sides in turn.
+//! Tables of times: the best of some rounds, the sides in turn.
 
 use std::time::Instant;
 
@@ -23,6 +23,28 @@ pub fn best<const N: usize>(mut sides: [&mut dyn FnMut(); N]) -> [f64; N] {
         }
     }
     best
+}
+
+/// Tables under way, or their rows only counted.
+pub struct Tables {
+    pub timed: bool,
+    /// The rows whose sides were seen to end alike.
+    pub alike: usize,
+}
+
+impl Tables {
+    /// Counts a row whose sides end alike; their times, where they are asked for.
+    pub fn times<const N: usize>(&mut self, sides: [&mut dyn FnMut(); N]) -> Option<[f64; N]> {
+        self.alike += 1;
+        self.timed.then(|| best(sides))
+    }
+
+    /// Begins a table.
+    pub fn head(&self, names: &str) {
+        if self.timed {
+            println!("{names}\n{}|", "|---".repeat(names.matches('|').count() - 1));
+        }
+    }
 }
 
 /// One row of the first table; not every row has an oracle's recorder.
