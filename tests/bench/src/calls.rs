@@ -2,7 +2,7 @@
 
 use crate::library::{self, Ended, Lent};
 use crate::rust::{Answered, lean, open_lean, open_recorded, recorded};
-use crate::timing::{best, row};
+use crate::timing::{Tables, row};
 use oracle_recorder::call::Call as Recorded;
 use recorder::call::Call;
 use std::hint::black_box;
@@ -12,7 +12,7 @@ pub const READY: u32 = 64;
 const LIMIT: u32 = 100_000;
 /// PLL, oscillator and wanted rate of the opening.
 const RATES: [u32; 3] = [1_200_000_000, 24_000_000, 10_000_000];
-/// The rate of the quad read, its tclqv and margin as `library::read_quad` has them.
+/// Rate, tclqv and margin of the quad read.
 const QUAD: (u32, u32, u8) = (50_000_000, 8, 1);
 
 /// What the three sides of a row do with what they are lent.
@@ -30,30 +30,25 @@ where
 {
     /// Sees that all sides end alike, with the same log, and times them. The log has room for so many entries; it, the
     /// answers and the bytes are written once before, and used again by every call.
-    fn row(mut self, name: &str, room: usize) {
+    fn row(mut self, t: &mut Tables, name: &str, room: usize) {
         let (limit, answers): (u32, &'static [u32]) = (LIMIT, vec![READY; room].leak());
         let (mut one, mut two) = (vec![1; 2 * room], vec![1; 2 * room]);
-        let a = Answered {
-            limit,
-            room,
-            answers,
-        };
+        let a = Answered { limit, room, answers };
         let ends = [
             (self.lean)(&mut Lent::new(limit, &mut one, answers)),
             (self.port)(&mut Lent::new(limit, &mut two, answers)),
             (self.recorded)(a),
         ];
-        assert!(
-            ends[0].0 == 0 && ends.iter().all(|e| *e == ends[0]),
-            "{name}: {ends:?}"
-        );
+        assert!(ends[0].0 == 0 && ends.iter().all(|e| *e == ends[0]), "{name}: {ends:?}");
         assert!(one == two, "{name}: the logs differ");
-        let [lean, port, recorded] = best([
+        let times = t.times([
             &mut || _ = black_box((self.lean)(&mut Lent::new(limit, &mut one, answers))),
             &mut || _ = black_box((self.port)(&mut Lent::new(limit, &mut two, answers))),
             &mut || _ = black_box((self.recorded)(a)),
         ]);
-        row(name, lean, port, Some(recorded));
+        if let Some([lean, port, recorded]) = times {
+            row(name, lean, port, Some(recorded));
+        }
     }
 }
 
@@ -62,82 +57,53 @@ fn room(bytes: usize) -> usize {
     bytes + bytes / 64 + 20
 }
 
-fn write_row(length: usize) {
+fn write_row(t: &mut Tables, length: usize) {
     let bytes: &[u8] = &vec![0x5A; length];
     Sides {
-        lean: |l: &mut Lent| {
-            lean(l, || {
-                lean_driver::calls::call(0, Call::Write(black_box(bytes)))
-            })
-        },
+        lean: |l: &mut Lent| lean(l, || lean_driver::calls::call(0, Call::Write(black_box(bytes)))),
         port: |l: &mut Lent| library::write(l, black_box(bytes)),
-        recorded: |a| {
-            recorded(a, || {
-                d13x::calls::call(0, Recorded::Write(black_box(bytes)))
-            })
-        },
+        recorded: |a| recorded(a, || d13x::calls::call(0, Recorded::Write(black_box(bytes)))),
     }
-    .row(&format!("write, {length} B"), room(length));
+    .row(t, &format!("write, {length} B"), room(length));
 }
 
-fn read_row(length: usize) {
+fn read_row(t: &mut Tables, length: usize) {
     let [mut one, mut two, mut three] = [(); 3].map(|()| vec![0x5A; length]);
     Sides {
-        lean: |l: &mut Lent| {
-            lean(l, || {
-                lean_driver::calls::call(0, Call::Read(black_box(&mut one)))
-            })
-        },
+        lean: |l: &mut Lent| lean(l, || lean_driver::calls::call(0, Call::Read(black_box(&mut one)))),
         port: |l: &mut Lent| library::read(l, black_box(&mut two)),
-        recorded: |a| {
-            recorded(a, || {
-                d13x::calls::call(0, Recorded::Read(black_box(&mut three)))
-            })
-        },
+        recorded: |a| recorded(a, || d13x::calls::call(0, Recorded::Read(black_box(&mut three)))),
     }
-    .row(&format!("read, {length} B"), room(length));
+    .row(t, &format!("read, {length} B"), room(length));
     assert!(one == two, "the bytes differ");
 }
 
-fn quad_row(length: usize) {
+fn quad_row(t: &mut Tables, length: usize) {
     let [mut one, mut two, mut three] = [(); 3].map(|()| vec![0x5A; length]);
     let (command, (rate, tclqv_ns, margin)) = ([0x6B, 1, 2, 3], QUAD);
     Sides {
         lean: |l: &mut Lent| {
-            let call = Call::QuadRead {
-                command: &command,
-                tclqv_ns,
-                margin,
-                data: black_box(&mut one),
-            };
+            let call = Call::QuadRead { command: &command, tclqv_ns, margin, data: black_box(&mut one) };
             lean(l, || lean_driver::calls::call(rate, call))
         },
-        port: |l: &mut Lent| library::read_quad(l, &command, black_box(&mut two)),
+        port: |l: &mut Lent| library::read_quad(l, QUAD, &command, black_box(&mut two)),
         recorded: |a| {
-            let call = Recorded::QuadRead {
-                command: &command,
-                tclqv_ns,
-                margin,
-                data: black_box(&mut three),
-            };
+            let call = Recorded::QuadRead { command: &command, tclqv_ns, margin, data: black_box(&mut three) };
             recorded(a, || d13x::calls::call(rate, call))
         },
     }
-    .row(
-        &format!("quad read, {length} B, command 4 B"),
-        room(length) + 60,
-    );
+    .row(t, &format!("quad read, {length} B, command 4 B"), room(length) + 60);
     assert!(one == two, "the bytes differ");
 }
 
-pub fn rows() {
-    [1, 64, 4096, 65_000].into_iter().for_each(write_row);
-    [1, 64, 4096, 65_000].into_iter().for_each(read_row);
-    quad_row(256);
+pub fn rows(t: &mut Tables) {
+    [1, 64, 4096, 65_000].into_iter().for_each(|length| write_row(t, length));
+    [1, 64, 4096, 65_000].into_iter().for_each(|length| read_row(t, length));
+    quad_row(t, 256);
     Sides {
         lean: |l: &mut Lent| open_lean(l, black_box(RATES)),
         port: |l: &mut Lent| library::open(l, black_box(RATES)),
         recorded: |a| open_recorded(a, black_box(RATES)),
     }
-    .row("opening at 10 MHz, PLL 1.2 GHz", 40);
+    .row(t, "opening at 10 MHz, PLL 1.2 GHz", 40);
 }

@@ -15,32 +15,19 @@ pub struct Lent<'a> {
 
 impl<'a> Lent<'a> {
     pub fn new(limit: u32, log: &'a mut [u32], answers: &'a [u32]) -> Self {
-        Lent {
-            limit,
-            log,
-            answers,
-        }
+        Lent { limit, log, answers }
     }
 }
 
 fn ended(e: qspi::Ended) -> Ended {
     (
         e.number.get(),
-        Counts {
-            entries: e.counts.entries,
-            taken: e.counts.taken,
-            polls: e.counts.polls,
-            longest: e.counts.longest,
-        },
+        Counts { entries: e.counts.entries, taken: e.counts.taken, polls: e.counts.polls, longest: e.counts.longest },
     )
 }
 
 fn lent<'a>(l: &'a mut Lent) -> library::Lent<'a> {
-    library::Lent {
-        limit: l.limit,
-        log: l.log,
-        answers: l.answers,
-    }
+    library::Lent { limit: l.limit, log: l.log, answers: l.answers }
 }
 
 pub fn write(l: &mut Lent, bytes: &[u8]) -> Ended {
@@ -55,14 +42,9 @@ pub fn flush(l: &mut Lent) -> Ended {
     ended(library::flush(&mut lent(l)))
 }
 
-/// A quad read at 50 MHz with tclqv 8 ns and margin 1.
-pub fn read_quad(l: &mut Lent, command: &[u8], data: &mut [u8]) -> Ended {
-    let asked = library::QuadRead {
-        hz: 50_000_000,
-        command,
-        tclqv_ns: 8,
-        margin: 1,
-    };
+/// A quad read at a rate, with tclqv and margin.
+pub fn read_quad(l: &mut Lent, (hz, tclqv_ns, margin): (u32, u32, u8), command: &[u8], data: &mut [u8]) -> Ended {
+    let asked = library::QuadRead { hz, command, tclqv_ns, margin };
     ended(library::read_quad(&mut lent(l), &asked, data))
 }
 

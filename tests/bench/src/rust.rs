@@ -42,15 +42,7 @@ pub fn recorded(a: Answered, f: impl FnOnce() -> oracle_recorder::call::How) -> 
         oracle_recorder::call::How::Panic(said) => panic!("{said}"),
     };
     let (polls, longest) = (r.polls as usize, r.longest as u32);
-    (
-        number,
-        Counts {
-            entries: r.log.len(),
-            taken: r.answers.len(),
-            polls,
-            longest,
-        },
-    )
+    (number, Counts { entries: r.log.len(), taken: r.answers.len(), polls, longest })
 }
 
 /// As `library::open`, of either recorder's own type.
@@ -78,9 +70,7 @@ pub fn open_lean(l: &mut Lent, rates: [u32; 3]) -> Ended {
 }
 
 pub fn open_recorded(a: Answered, rates: [u32; 3]) -> Ended {
-    recorded(a, || {
-        d13x::calls::open(&opening!(oracle_recorder::call::Opening, rates)).0
-    })
+    recorded(a, || d13x::calls::open(&opening!(oracle_recorder::call::Opening, rates)).0)
 }
 
 /// What the oracle's chains call.

@@ -1,7 +1,7 @@
 //! Whole sheets, small and full.
 
 use crate::calls::READY;
-use crate::timing::{best, row};
+use crate::timing::{Tables, row};
 use crate::{library, rust};
 use std::hint::black_box;
 
@@ -27,18 +27,7 @@ pub fn of_bytes() -> Vec<u8> {
 /// 65,516 bytes: as many records as there is room for, each a delay.
 fn of_records() -> Vec<u8> {
     let count = (MOST - 20) / 32;
-    let record = |n: usize| {
-        [
-            5,
-            1000,
-            0,
-            0,
-            0,
-            0,
-            0,
-            if n < count { n as u32 + 1 } else { 0 },
-        ]
-    };
+    let record = |n: usize| [5, 1000, 0, 0, 0, 0, 0, if n < count { n as u32 + 1 } else { 0 }];
     let records: Vec<[u32; 8]> = (1..=count).map(record).collect();
     sheet(&records, &[], 20 + 32 * count)
 }
@@ -48,31 +37,26 @@ fn of_answers() -> Vec<u8> {
     sheet(&[[6, 0, 0, 0, 0, 0, 0, 0]], &[READY; (MOST - 52) / 4], MOST)
 }
 
-fn sheet_row(name: &str, bytes: &[u8]) {
-    let [(mut one, mut log), (mut two, mut other)] =
-        [(); 2].map(|()| (bytes.to_vec(), vec![1; LOG_WORDS]));
-    let ends = [
-        rust::sheet(&mut log, &mut one),
-        library::sheet(&mut other, &mut two),
-    ];
+fn sheet_row(t: &mut Tables, name: &str, bytes: &[u8]) {
+    let [(mut one, mut log), (mut two, mut other)] = [(); 2].map(|()| (bytes.to_vec(), vec![1; LOG_WORDS]));
+    let ends = [rust::sheet(&mut log, &mut one), library::sheet(&mut other, &mut two)];
     assert!(ends[0] == ends[1] && ends[0].0 == 0, "{name}: {ends:?}");
     assert!(one == two && log == other, "{name}: log or bytes differ");
-    let [reading, lean, port] = best([
+    let times = t.times([
         &mut || _ = black_box(rust::opened(black_box(bytes))),
         &mut || _ = black_box(rust::sheet(&mut log, black_box(&mut one))),
         &mut || _ = black_box(library::sheet(&mut other, black_box(&mut two))),
     ]);
-    let entries = ends[0].1.entries;
-    let name = format!("{name}, {entries} entries (the Rust's reading alone: {reading:.3})");
-    row(&name, lean, port, None);
+    if let Some([reading, lean, port]) = times {
+        let entries = ends[0].1.entries;
+        let name = format!("{name}, {entries} entries (the Rust's reading alone: {reading:.3})");
+        row(&name, lean, port, None);
+    }
 }
 
-pub fn rows() {
-    sheet_row(
-        "document 01's sheet",
-        include_bytes!("../../../crates/qspi_sheet/stdin"),
-    );
-    sheet_row("full sheet of bytes", &of_bytes());
-    sheet_row("full sheet of 2,047 records", &of_records());
-    sheet_row("full sheet of 16,371 answers", &of_answers());
+pub fn rows(t: &mut Tables) {
+    sheet_row(t, "document 01's sheet", include_bytes!("../../../crates/qspi_sheet/stdin"));
+    sheet_row(t, "full sheet of bytes", &of_bytes());
+    sheet_row(t, "full sheet of 2,047 records", &of_records());
+    sheet_row(t, "full sheet of 16,371 answers", &of_answers());
 }

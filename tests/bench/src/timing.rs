@@ -1,4 +1,4 @@
-//! The best of some rounds, the sides in turn.
+//! Tables of times: the best of some rounds, the sides in turn.
 
 use std::time::Instant;
 
@@ -15,9 +15,7 @@ fn round(f: &mut dyn FnMut(), calls: usize) -> f64 {
 
 /// Microseconds a call for each side: the best of all rounds. The sides take turns, so that noise meets all of them.
 pub fn best<const N: usize>(mut sides: [&mut dyn FnMut(); N]) -> [f64; N] {
-    let calls = sides
-        .each_mut()
-        .map(|f| (ROUND / round(f, 3).max(1e-9)).ceil() as usize);
+    let calls = sides.each_mut().map(|f| (ROUND / round(f, 3).max(1e-9)).ceil() as usize);
     let mut best = [f64::MAX; N];
     for _ in 0..ROUNDS {
         for i in 0..N {
@@ -27,11 +25,30 @@ pub fn best<const N: usize>(mut sides: [&mut dyn FnMut(); N]) -> [f64; N] {
     best
 }
 
+/// Tables under way, or their rows only counted.
+pub struct Tables {
+    pub timed: bool,
+    /// The rows whose sides were seen to end alike.
+    pub alike: usize,
+}
+
+impl Tables {
+    /// Counts a row whose sides end alike; their times, where they are asked for.
+    pub fn times<const N: usize>(&mut self, sides: [&mut dyn FnMut(); N]) -> Option<[f64; N]> {
+        self.alike += 1;
+        self.timed.then(|| best(sides))
+    }
+
+    /// Begins a table.
+    pub fn head(&self, names: &str) {
+        if self.timed {
+            println!("{names}\n{}|", "|---".repeat(names.matches('|').count() - 1));
+        }
+    }
+}
+
 /// One row of the first table; not every row has an oracle's recorder.
 pub fn row(name: &str, lean: f64, port: f64, recorded: Option<f64>) {
     let recorded = recorded.map_or(String::from("–"), |r| format!("{r:.3}"));
-    println!(
-        "| {name} | {lean:.3} | {port:.3} | {:.2} | {recorded} |",
-        port / lean
-    );
+    println!("| {name} | {lean:.3} | {port:.3} | {:.2} | {recorded} |", port / lean);
 }

@@ -19,7 +19,7 @@ pub type Answered = [String; 3];
 #[derive(Default)]
 pub struct Tally {
     /// How many cases have each verdict, in the order of `Verdict`.
-    counts: [usize; 4],
+    counts: [usize; 3],
     /// How many calls of the port ended with each number.
     ends: BTreeMap<u32, usize>,
     /// The smallest case that differs.
@@ -45,8 +45,8 @@ impl Tally {
     }
 
     pub fn text(&self) -> String {
-        let [same, excluded, missing, different] = self.counts;
-        format!("{} compared, {excluded} excluded, {missing} missing, {different} differences", same + different)
+        let [same, excluded, different] = self.counts;
+        format!("{} compared, {excluded} excluded, {different} differences", same + different)
     }
 
     /// How many cases were answered.

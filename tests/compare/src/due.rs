@@ -1,16 +1,6 @@
 //! Which refusal document 01 asks for, read off the case line alone.
 
-use std::iter::MapWhile;
-use std::str::SplitWhitespace;
-
-type Numbers<'a> = MapWhile<SplitWhitespace<'a>, fn(&str) -> Option<u64>>;
-
-fn number(word: &str) -> Option<u64> {
-    match word.strip_prefix("0x") {
-        Some(digits) => u64::from_str_radix(digits, 16).ok(),
-        None => word.parse().ok(),
-    }
-}
+use crate::numbers::{Numbers, numbers};
 
 fn some(f: &mut Numbers, count: u64) -> Option<Vec<u64>> {
     (0..count).map(|_| f.next()).collect()
@@ -32,9 +22,8 @@ fn bytes(f: &mut Numbers) -> Option<Vec<u64>> {
 
 /// The number of the refusal that is due, or 0. Nothing where the line cannot be read.
 pub fn due(line: &str) -> Option<u32> {
-    let mut words = line.split_whitespace();
-    let name = words.next()?;
-    let f = &mut words.map_while(number as fn(&str) -> Option<u64>);
+    let (name, mut numbers) = numbers(line)?;
+    let f = &mut numbers;
     match name {
         "open" => some(f, 15).map(|f| open(&f)),
         "sck" => some(f, 4).map(|f| if f[1] > 31 || (f[2] == 1 && f[3] > 15) { 12 } else { 0 }),

@@ -7,8 +7,6 @@ pub enum Verdict {
     Same,
     /// The port refuses what document 01 refuses; the Rust has no such answer.
     Excluded,
-    /// The port has no function for the case yet.
-    Missing,
     Different,
 }
 
@@ -16,7 +14,6 @@ pub fn judge(line: &str, oracle: &str, port: &str) -> Verdict {
     match due(line) {
         None => Verdict::Different,
         _ if oracle.starts_with("error") => Verdict::Different,
-        _ if port == "missing\n" => Verdict::Missing,
         Some(0) if port == oracle => Verdict::Same,
         Some(number) if number > 0 && port == refusal(line, number) => Verdict::Excluded,
         _ => Verdict::Different,
@@ -33,7 +30,6 @@ mod tests {
         let changed = format!("{flush}changed\n");
         for (line, oracle, port, verdict) in [
             ("flush 1 9 1 0", flush, flush, Same),
-            ("flush 1 9 1 0", flush, "missing\n", Missing),
             ("flush 1 9 1 0", flush, &changed, Different),
             ("flush 1 9 1 0", flush, "end 7 0 0 0 0\n", Different),
             ("flush 0 9 1 0", flush, "end 7 0 0 0 0\n", Excluded),

@@ -8,10 +8,13 @@ mod due;
 mod exhaustive;
 mod generate;
 mod judge;
+mod numbers;
 mod rng;
 mod sheet;
 mod shrink;
 mod small;
+#[path = "../../oracle/src/splitmix64.rs"]
+mod splitmix64;
 #[cfg(test)]
 mod tests;
 mod walk;

@@ -1,13 +1,12 @@
-//! A small deterministic source of numbers (splitmix64).
+//! A small deterministic source of numbers.
+
+use crate::splitmix64::splitmix64;
 
 pub struct Rng(pub u64);
 
 impl Rng {
     fn u64(&mut self) -> u64 {
-        self.0 = self.0.wrapping_add(0x9E37_79B9_7F4A_7C15);
-        let z = (self.0 ^ (self.0 >> 30)).wrapping_mul(0xBF58_476D_1CE4_E5B9);
-        let z = (z ^ (z >> 27)).wrapping_mul(0x94D0_49BB_1331_11EB);
-        z ^ (z >> 31)
+        splitmix64(&mut self.0)
     }
 
     /// A number below `n`, which is not 0.

@@ -1,6 +1,7 @@
 //! A smaller case that still differs: fewer records, shorter answers and buffers, smaller numbers.
 
 use crate::generate::list;
+use crate::numbers::numbers;
 use crate::sheet;
 use std::fmt::Write;
 
@@ -41,14 +42,9 @@ struct Case {
 
 impl Case {
     fn read(line: &str) -> Option<Case> {
-        let mut words = line.split_whitespace();
-        let name = words.next()?.to_string();
-        let mut numbers = words.map_while(|w| match w.strip_prefix("0x") {
-            Some(digits) => u64::from_str_radix(digits, 16).ok(),
-            None => w.parse().ok(),
-        });
-        let parts: Option<Vec<Part>> = form(&name).chars().map(|of| part(of, &mut numbers)).collect();
-        let mut case = Case { name, parts: parts? };
+        let (name, mut numbers) = numbers(line)?;
+        let parts: Option<Vec<Part>> = form(name).chars().map(|of| part(of, &mut numbers)).collect();
+        let mut case = Case { name: name.into(), parts: parts? };
         if let ("sheet" | "print", [Part::Bytes(bytes)]) = (case.name.as_str(), case.parts.as_slice())
             && let Some(parts) = of_sheet(bytes)
         {

@@ -37,12 +37,7 @@ fn blocks() -> Blocks {
     }
     recorder::lay_out(
         at(b.reg),
-        [
-            at(&b.clocks.clock_qspi0),
-            at(&b.clocks.clock_qspi1),
-            at(&b.clocks.clock_qspi2),
-            at(&b.clocks.clock_qspi3),
-        ],
+        [at(&b.clocks.clock_qspi0), at(&b.clocks.clock_qspi1), at(&b.clocks.clock_qspi2), at(&b.clocks.clock_qspi3)],
     );
     b
 }
@@ -57,10 +52,7 @@ fn caught<T>(f: impl FnOnce() -> Result<T, QspiError>) -> (How, Option<T>) {
             if let Some(Cut(n)) = payload.downcast_ref() {
                 return (How::Number(*n), None);
             }
-            let said = match (
-                payload.downcast_ref::<&str>(),
-                payload.downcast_ref::<String>(),
-            ) {
+            let said = match (payload.downcast_ref::<&str>(), payload.downcast_ref::<String>()) {
                 (Some(s), _) => (*s).to_string(),
                 (_, Some(s)) => s.clone(),
                 _ => String::from("?"),
@@ -86,25 +78,13 @@ fn config(o: &Opening) -> QspiConfig {
     QspiConfig {
         freq: Hertz(o.freq),
         mode: [MODE_0, MODE_1, MODE_2, MODE_3][o.mode as usize],
-        ctrl_mode: if o.master {
-            CtrlMode::Master
-        } else {
-            CtrlMode::Slave
-        },
+        ctrl_mode: if o.master { CtrlMode::Master } else { CtrlMode::Slave },
         work_mode: work_mode(o.work_mode),
         bit_mode_en: o.bit_mode_en,
         lsb_first: o.lsb_first,
         cs_config: o.cs_config.map(|[polarity, level, pin]| CsConfig {
-            polarity: if polarity == 0 {
-                Polarity::IdleLow
-            } else {
-                Polarity::IdleHigh
-            },
-            level: if level == 0 {
-                CsLevel::Low
-            } else {
-                CsLevel::High
-            },
+            polarity: if polarity == 0 { Polarity::IdleLow } else { Polarity::IdleHigh },
+            level: if level == 0 { CsLevel::Low } else { CsLevel::High },
             pin: if pin == 0 { CsPin::Cs0 } else { CsPin::Cs1 },
         }),
     }
@@ -112,10 +92,7 @@ fn config(o: &Opening) -> QspiConfig {
 
 fn open_as<const I: u8>(o: &Opening) -> u32 {
     let b = blocks();
-    let tree = ClockTree {
-        pll_fra0: Hertz(o.pll_hz),
-        osc_24m: Hertz(o.osc_hz),
-    };
+    let tree = ClockTree { pll_fra0: Hertz(o.pll_hz), osc_24m: Hertz(o.osc_hz) };
     let mut cmu = Cmu { reg: b.clocks };
     Bus::<I>::new(b.reg, NoPads, config(o), &tree, &mut cmu).sck_hz()
 }
@@ -166,12 +143,7 @@ pub fn call(rate: u32, call: Call<'_>) -> How {
         Call::InPlace(words) => bus.transfer_in_place(words),
         Call::Flush => bus.flush(),
         Call::Mode(n) => bus.set_work_mode(work_mode(n)),
-        Call::QuadRead {
-            command,
-            tclqv_ns,
-            margin,
-            data,
-        } => bus.read_quad(command, tclqv_ns, margin, data),
+        Call::QuadRead { command, tclqv_ns, margin, data } => bus.read_quad(command, tclqv_ns, margin, data),
         Call::QuadWrite(command, data) => bus.write_quad(command, data),
         Call::DelayNs(ns) => bus.transaction(&mut [Operation::DelayNs(ns)]),
     })

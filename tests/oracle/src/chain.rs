@@ -39,7 +39,7 @@ const KINDS: [Kind; 9] = [
 
 /// The records along the chain, or nothing where document 01 refuses it (8 or 9): the Rust has no such thing.
 pub fn chain(words: &[u32], highest: u32, memory: usize) -> Option<Vec<Record>> {
-    if words.len() % 8 != 0 {
+    if !words.len().is_multiple_of(8) {
         return None;
     }
     let records: Vec<Record> = words.chunks(8).map(|r| r.try_into().unwrap()).collect();
@@ -96,12 +96,7 @@ fn record(r: &Record, qpi: bool, rate: u32, memory: &mut [u8]) -> How {
         5 => Call::DelayNs(f1),
         6 => Call::Flush,
         7 => Call::Mode(f1),
-        8 => Call::QuadRead {
-            command: &sent,
-            tclqv_ns: f3,
-            margin: f4 as u8,
-            data: &mut memory[window(f5, f6)],
-        },
+        8 => Call::QuadRead { command: &sent, tclqv_ns: f3, margin: f4 as u8, data: &mut memory[window(f5, f6)] },
         _ => Call::QuadWrite(&sent, &data),
     };
     call(qpi, rate, asked)

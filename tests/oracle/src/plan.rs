@@ -1,27 +1,24 @@
 //! Answers made up as the driver asks for them, so that a case goes the way it is meant to.
 
+use crate::splitmix64::splitmix64;
 use recorder::{Asked, Entry, Record};
 
-/// A small generator of pseudo-random numbers (splitmix64).
+/// Pseudo-random numbers from a seed.
 #[derive(Clone)]
 pub struct Random(pub u64);
 
 impl Random {
-    pub fn next(&mut self) -> u64 {
-        self.0 = self.0.wrapping_add(0x9E37_79B9_7F4A_7C15);
-        let mut z = self.0;
-        z = (z ^ (z >> 30)).wrapping_mul(0xBF58_476D_1CE4_E5B9);
-        z = (z ^ (z >> 27)).wrapping_mul(0x94D0_49BB_1331_11EB);
-        z ^ (z >> 31)
+    pub fn number(&mut self) -> u64 {
+        splitmix64(&mut self.0)
     }
 
     pub fn word(&mut self) -> u32 {
-        self.next() as u32
+        self.number() as u32
     }
 
     /// A number below `n`.
     pub fn below(&mut self, n: u64) -> u64 {
-        self.next() % n
+        self.number() % n
     }
 }
 
@@ -47,13 +44,7 @@ pub struct Plan {
 
 impl Plan {
     pub fn new(unready: &[u64], portion: u32, seed: u64) -> Self {
-        Plan {
-            unready: unready.to_vec(),
-            portion,
-            random: Random(seed),
-            waits: 0,
-            cause: Cause::Start,
-        }
+        Plan { unready: unready.to_vec(), portion, random: Random(seed), waits: 0, cause: Cause::Start }
     }
 
     /// The answer that the plan has for a read or a byte got.
@@ -100,9 +91,5 @@ fn cause(record: &Record, place: u32) -> Cause {
         return Cause::Received;
     }
     let sent = log[at..].iter().filter(|e| e.op == 3).count();
-    if sent < length {
-        Cause::Space
-    } else {
-        Cause::Empty
-    }
+    if sent < length { Cause::Space } else { Cause::Empty }
 }

@@ -17,10 +17,7 @@ struct Lent {
 
 impl Lent {
     fn read(w: &mut Words) -> Result<Self, String> {
-        Ok(Lent {
-            limit: u64::from(w.u32()?),
-            log_words: w.usize()?,
-        })
+        Ok(Lent { limit: u64::from(w.u32()?), log_words: w.usize()? })
     }
 
     /// The last words of every call's case: the answers. The run begins with them.
@@ -44,11 +41,7 @@ impl Lent {
 
 /// The chip with QPI or the one without.
 pub(crate) fn call(qpi: bool, rate: u32, c: Call<'_>) -> How {
-    if qpi {
-        d13x::calls::call(rate, c)
-    } else {
-        d21x::calls::call(rate, c)
-    }
+    if qpi { d13x::calls::call(rate, c) } else { d21x::calls::call(rate, c) }
 }
 
 /// The log and the end line. A panic has a line of its own in place of the end line.
@@ -59,13 +52,7 @@ fn ended(how: &How, out: &mut String) {
         let letter = char::from(b"rwbgd"[usize::from(e.op) - 1]);
         writeln!(out, "{letter} {:04x} {:08x}", e.place, e.value).unwrap();
     }
-    let counts = format!(
-        "{} {} {} {}",
-        record.log.len(),
-        record.answers.len(),
-        record.polls,
-        record.longest
-    );
+    let counts = format!("{} {} {} {}", record.log.len(), record.answers.len(), record.polls, record.longest);
     match how {
         How::Number(n) => writeln!(out, "end {n} {counts}"),
         How::Panic(said) => writeln!(out, "panic {counts} {said}"),
@@ -109,92 +96,86 @@ pub fn answer(line: &str, out: &mut String) -> Result<(), String> {
     match w.name()? {
         "open" => open(w, out),
         "free" => free(w, out),
+        "write" => write(w, out),
+        "read" => read(w, out),
+        "inplace" => inplace(w, out),
+        "transfer" => transfer(w, out),
+        "flush" => flush(w, out),
+        "mode" => mode(w, out),
+        "quadread" => quadread(w, out),
+        "quadwrite" => quadwrite(w, out),
+        "transaction" => transaction(w, out),
         "clock" => clock(w, out),
         "sck" => sck(w, out),
         "dummy" => dummy(w, out),
         "sheet" => sheet(w, true, out),
         "print" => sheet(w, false, out),
-        name => on_a_bus(name, w, out),
+        name => Err(format!("{name} is no case")),
     }
 }
 
-fn on_a_bus(name: &str, w: &mut Words, out: &mut String) -> Result<(), String> {
-    let lent = Lent::read(w)?;
-    match name {
-        "write" => {
-            let bytes = w.bytes()?;
-            lent.begin(w)?;
-            ended(&call(true, 0, Call::Write(&bytes)), out);
-        }
-        "read" | "inplace" => {
-            let buffer = w.bytes()?;
-            lent.begin(w)?;
-            let read = name == "read";
-            receiving(buffer, out, |b| {
-                call(
-                    true,
-                    0,
-                    if read {
-                        Call::Read(b)
-                    } else {
-                        Call::InPlace(b)
-                    },
-                )
-            });
-        }
-        "transfer" => {
-            let buffer = w.bytes()?;
-            let sent = w.bytes()?;
-            lent.begin(w)?;
-            receiving(buffer, out, |b| call(true, 0, Call::Transfer(b, &sent)));
-        }
-        "flush" => {
-            lent.begin(w)?;
-            ended(&call(true, 0, Call::Flush), out);
-        }
-        "mode" => {
-            let qpi = w.flag()?;
-            let mode = w.up_to(6)?;
-            lent.begin(w)?;
-            ended(&call(qpi, 0, Call::Mode(mode)), out);
-        }
-        "quadread" => {
-            let rate = w.u32()?;
-            let command = w.bytes()?;
-            let tclqv_ns = w.u32()?;
-            let margin = w.up_to(255)? as u8;
-            let buffer = w.bytes()?;
-            lent.begin(w)?;
-            receiving(buffer, out, |data| {
-                let command = &command;
-                call(
-                    true,
-                    rate,
-                    Call::QuadRead {
-                        command,
-                        tclqv_ns,
-                        margin,
-                        data,
-                    },
-                )
-            });
-        }
-        "quadwrite" => {
-            let command = w.bytes()?;
-            let data = w.bytes()?;
-            lent.begin(w)?;
-            ended(&call(true, 0, Call::QuadWrite(&command, &data)), out);
-        }
-        "transaction" => {
-            let records = w.list()?;
-            let memory = w.bytes()?;
-            lent.begin(w)?;
-            match chain(&records, OF_TRANSACTIONS, memory.len()) {
-                Some(chain) => receiving(memory, out, |m| run(&chain, true, 0, m)),
-                None => writeln!(out, "refused").unwrap(),
-            }
-        }
-        _ => return Err(format!("{name} is no case")),
+fn write(w: &mut Words, out: &mut String) -> Result<(), String> {
+    let (lent, bytes) = (Lent::read(w)?, w.bytes()?);
+    lent.begin(w)?;
+    ended(&call(true, 0, Call::Write(&bytes)), out);
+    Ok(())
+}
+
+fn read(w: &mut Words, out: &mut String) -> Result<(), String> {
+    let (lent, buffer) = (Lent::read(w)?, w.bytes()?);
+    lent.begin(w)?;
+    receiving(buffer, out, |b| call(true, 0, Call::Read(b)));
+    Ok(())
+}
+
+fn inplace(w: &mut Words, out: &mut String) -> Result<(), String> {
+    let (lent, buffer) = (Lent::read(w)?, w.bytes()?);
+    lent.begin(w)?;
+    receiving(buffer, out, |b| call(true, 0, Call::InPlace(b)));
+    Ok(())
+}
+
+fn transfer(w: &mut Words, out: &mut String) -> Result<(), String> {
+    let (lent, buffer, sent) = (Lent::read(w)?, w.bytes()?, w.bytes()?);
+    lent.begin(w)?;
+    receiving(buffer, out, |b| call(true, 0, Call::Transfer(b, &sent)));
+    Ok(())
+}
+
+fn flush(w: &mut Words, out: &mut String) -> Result<(), String> {
+    Lent::read(w)?.begin(w)?;
+    ended(&call(true, 0, Call::Flush), out);
+    Ok(())
+}
+
+fn mode(w: &mut Words, out: &mut String) -> Result<(), String> {
+    let (lent, qpi, mode) = (Lent::read(w)?, w.flag()?, w.up_to(6)?);
+    lent.begin(w)?;
+    ended(&call(qpi, 0, Call::Mode(mode)), out);
+    Ok(())
+}
+
+fn quadread(w: &mut Words, out: &mut String) -> Result<(), String> {
+    let (lent, rate, command) = (Lent::read(w)?, w.u32()?, &w.bytes()?);
+    let (tclqv_ns, margin, buffer) = (w.u32()?, w.up_to(255)? as u8, w.bytes()?);
+    lent.begin(w)?;
+    receiving(buffer, out, |data| call(true, rate, Call::QuadRead { command, tclqv_ns, margin, data }));
+    Ok(())
+}
+
+fn quadwrite(w: &mut Words, out: &mut String) -> Result<(), String> {
+    let (lent, command, data) = (Lent::read(w)?, w.bytes()?, w.bytes()?);
+    lent.begin(w)?;
+    ended(&call(true, 0, Call::QuadWrite(&command, &data)), out);
+    Ok(())
+}
+
+fn transaction(w: &mut Words, out: &mut String) -> Result<(), String> {
+    let (lent, records, memory) = (Lent::read(w)?, w.list()?, w.bytes()?);
+    lent.begin(w)?;
+    match chain(&records, OF_TRANSACTIONS, memory.len()) {
+        Some(chain) => receiving(memory, out, |m| run(&chain, true, 0, m)),
+        None => writeln!(out, "refused").unwrap(),
     }
     Ok(())
 }
@@ -221,11 +202,7 @@ fn open(w: &mut Words, out: &mut String) -> Result<(), String> {
     let qpi = w.flag()?;
     let lent = Lent::read(w)?;
     lent.begin(w)?;
-    let (how, rate) = if qpi {
-        d13x::calls::open(&o)
-    } else {
-        d21x::calls::open(&o)
-    };
+    let (how, rate) = if qpi { d13x::calls::open(&o) } else { d21x::calls::open(&o) };
     ended(&how, out);
     writeln!(out, "rate {rate}").unwrap();
     Ok(())
@@ -233,10 +210,7 @@ fn open(w: &mut Words, out: &mut String) -> Result<(), String> {
 
 fn free(w: &mut Words, out: &mut String) -> Result<(), String> {
     let instance = w.u32()?;
-    let lent = Lent {
-        limit: 1,
-        log_words: w.usize()?,
-    };
+    let lent = Lent { limit: 1, log_words: w.usize()? };
     lent.begin(w)?;
     ended(&d13x::calls::free(instance), out);
     Ok(())
@@ -269,12 +243,7 @@ fn sck(w: &mut Words, out: &mut String) -> Result<(), String> {
 fn dummy(w: &mut Words, out: &mut String) -> Result<(), String> {
     let (rate, tclqv_ns, margin) = (w.u32()?, w.u32()?, w.up_to(255)? as u8);
     w.end()?;
-    writeln!(
-        out,
-        "dummy {}",
-        d13x::calls::dummy_bytes_for(rate, tclqv_ns, margin)
-    )
-    .unwrap();
+    writeln!(out, "dummy {}", d13x::calls::dummy_bytes_for(rate, tclqv_ns, margin)).unwrap();
     Ok(())
 }
 
@@ -293,10 +262,7 @@ fn sheet(w: &mut Words, memory: bool, out: &mut String) -> Result<(), String> {
         writeln!(out, "refused").unwrap();
         return Ok(());
     };
-    let lent = Lent {
-        limit: u64::from(s.limit),
-        log_words: SHEET_LOG_WORDS,
-    };
+    let lent = Lent { limit: u64::from(s.limit), log_words: SHEET_LOG_WORDS };
     lent.begin_with(s.answers);
     let how = run(&chain, s.qpi, s.rate, &mut bytes[s.memory..]);
     ended(&how, out);

@@ -14,10 +14,7 @@ impl<'a> Words<'a> {
     }
 
     pub fn number(&mut self) -> Result<u64, String> {
-        let word = self
-            .0
-            .next()
-            .ok_or_else(|| String::from("a number is missing"))?;
+        let word = self.0.next().ok_or_else(|| String::from("a number is missing"))?;
         let read = match word.strip_prefix("0x") {
             Some(digits) => u64::from_str_radix(digits, 16),
             None => word.parse(),
@@ -41,11 +38,7 @@ impl<'a> Words<'a> {
     /// A number of at most `most`.
     pub fn up_to(&mut self, most: u32) -> Result<u32, String> {
         let n = self.u32()?;
-        if n > most {
-            Err(format!("{n} is above {most}"))
-        } else {
-            Ok(n)
-        }
+        if n > most { Err(format!("{n} is above {most}")) } else { Ok(n) }
     }
 
     /// `COUNT w1 .. wCOUNT`.

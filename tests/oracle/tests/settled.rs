@@ -19,11 +19,7 @@ fn last(case: &str) -> String {
 fn planned(head: &str, log_words: usize, tail: &str, plan: Plan) -> String {
     let answers = oracle::answered_by(&format!("{head} {log_words} {tail} 0"), plan);
     let words: Vec<String> = answers.iter().map(u32::to_string).collect();
-    format!(
-        "{head} {log_words} {tail} {} {}",
-        answers.len(),
-        words.join(" ")
-    )
+    format!("{head} {log_words} {tail} {} {}", answers.len(), words.join(" "))
 }
 
 /// So many times the same word.
@@ -45,10 +41,7 @@ fn sample_sheet() {
     let log = "r 0018 00000000\nw 0018 80008000\nd 0000 0000000a\nr 0030 00000000\nw 0030 00000001\nr 0034 00000000\n\
                w 0034 00000001\nr 0038 00000000\nw 0038 00000001\nr 0008 00000000\nw 0008 80000000\nr 001c 00000000\n\
                b 0200 0000009f\nr 001c 00000000\nr 0008 00000000\nend 0 15 8 3 0";
-    assert_eq!(
-        lines("write 3 8192 1 1 0x9f 8 0 0 0 0 0 0 0 0").join("\n"),
-        log
-    );
+    assert_eq!(lines("write 3 8192 1 1 0x9f 8 0 0 0 0 0 0 0 0").join("\n"), log);
     let mut words = vec![3, 10_000_000, 0, 1, 8, 1, 0, 1];
     words.resize(21, 0);
     let sample = sheet(&words, &[0x9f]);
@@ -90,20 +83,9 @@ fn memory_of_a_sheet() {
     // Sends 1..4 as they stand, then reads into 0..3; the bytes are those of the sheet, behind 33 words.
     let case = one_record(0, [3, 0, 3, 1, 3, 9, 9, 0], 20, &[5, 6, 7, 8]);
     let told = lines(&format!("sheet {case}"));
-    let sent: Vec<&str> = told
-        .iter()
-        .filter_map(|l| l.strip_prefix("b 0200 "))
-        .collect();
+    let sent: Vec<&str> = told.iter().filter_map(|l| l.strip_prefix("b 0200 ")).collect();
     assert_eq!(sent, ["00000006", "00000007", "00000008"]);
-    assert_eq!(
-        told[told.len() - 4..],
-        [
-            "end 0 35 20 7 0",
-            "m 00000084 01",
-            "m 00000085 01",
-            "m 00000086 01"
-        ]
-    );
+    assert_eq!(told[told.len() - 4..], ["end 0 35 20 7 0", "m 00000084 01", "m 00000085 01", "m 00000086 01"]);
 }
 
 #[test]
@@ -116,47 +98,26 @@ fn p1_to_p6_clock() {
         (3_200_000_032, 100_000_000, "0 1 0 3200000032"),
         (0, 10_000_000, "0 1 0 0"),
     ] {
-        assert_eq!(
-            last(&format!("clock {pll} {target}")),
-            format!("clock {choice}")
-        );
+        assert_eq!(last(&format!("clock {pll} {target}")), format!("clock {choice}"));
     }
 }
 
 #[test]
 fn p7_to_p10_dummies() {
-    for (tclqv, margin, count) in [
-        (80, 0, 1),
-        (81, 0, 2),
-        (20_480, 0, 1),
-        (20_480, 3, 3),
-        (20_400, 1, 255),
-    ] {
-        assert_eq!(
-            last(&format!("dummy 100000000 {tclqv} {margin}")),
-            format!("dummy {count}")
-        );
+    for (tclqv, margin, count) in [(80, 0, 1), (81, 0, 2), (20_480, 0, 1), (20_480, 3, 3), (20_400, 1, 255)] {
+        assert_eq!(last(&format!("dummy 100000000 {tclqv} {margin}")), format!("dummy {count}"));
     }
 }
 
 #[test]
 fn p11_flush() {
-    assert_eq!(
-        last("flush 3 100 3 0x80000000 0x80000000 0"),
-        "end 0 3 3 3 2"
-    );
-    assert_eq!(
-        last("flush 3 100 4 0x80000000 0x80000000 0x80000000 0"),
-        "end 1 3 3 3 3"
-    );
+    assert_eq!(last("flush 3 100 3 0x80000000 0x80000000 0"), "end 0 3 3 3 2");
+    assert_eq!(last("flush 3 100 4 0x80000000 0x80000000 0x80000000 0"), "end 1 3 3 3 3");
 }
 
 #[test]
 fn ready_first_write_of_64_bytes() {
-    assert_eq!(
-        last(&format!("write 3 8192 64 0 {}", repeated(0, 8))),
-        "end 0 78 8 3 0"
-    );
+    assert_eq!(last(&format!("write 3 8192 64 0 {}", repeated(0, 8))), "end 0 78 8 3 0");
 }
 
 #[test]
@@ -172,9 +133,7 @@ fn longest_length() {
 #[test]
 fn default_opening() {
     let answers = repeated(0, 13);
-    let opened = lines(&format!(
-        "open 0 0 1 0 0 0 1 1 0 0 10000000 1200000000 24000000 1 5 60 {answers}"
-    ));
+    let opened = lines(&format!("open 0 0 1 0 0 0 1 1 0 0 10000000 1200000000 24000000 1 5 60 {answers}"));
     assert_eq!(opened[30..], ["end 0 30 13 0 0", "rate 10000000"]);
 }
 
@@ -182,28 +141,17 @@ fn default_opening() {
 fn panics_of_an_opening() {
     assert!(lines("open 0 1 1 0 0 0 0 0 0 0 1 1 1 1 5 60 0")[0].starts_with("panic 0 0 0 0 "));
     assert!(lines("open 4 0 1 0 0 0 0 0 0 0 1 1 1 1 5 60 0")[0].starts_with("panic 0 0 0 0 "));
-    let qpi = lines(&format!(
-        "open 0 0 1 6 0 0 0 0 0 0 1 1 1 0 5 60 {}",
-        repeated(0, 20)
-    ));
+    let qpi = lines(&format!("open 0 0 1 6 0 0 0 0 0 0 1 1 1 0 5 60 {}", repeated(0, 20)));
     assert!(qpi[21].starts_with("panic 21 9 0 0 "));
 }
 
 #[test]
 fn standard_after_a_read_that_times_out() {
     // One command byte, ready; mode Quad, ready; the read's data wait times out at limit 2; Standard is ready.
-    let case = planned(
-        "quadread 2",
-        8192,
-        "1000000 1 1 0x6b 0 0 2 0",
-        Plan::new(&[0, 0, 0, 0, 2, 0], 64, 1),
-    );
+    let case = planned("quadread 2", 8192, "1000000 1 1 0x6b 0 0 2 0", Plan::new(&[0, 0, 0, 0, 2, 0], 64, 1));
     let log = lines(&case);
     assert!(log.last().unwrap().starts_with("end 1 "));
-    let places: Vec<&str> = log[log.len() - 6..log.len() - 1]
-        .iter()
-        .map(|l| &l[..6])
-        .collect();
+    let places: Vec<&str> = log[log.len() - 6..log.len() - 1].iter().map(|l| &l[..6]).collect();
     assert_eq!(places, ["r 0008", "r 0038", "w 0038", "r 0008", "w 0008"]);
 }
 
@@ -214,11 +162,7 @@ fn every_wait_at_the_rust_limit() {
             let mut waits = [0; 3];
             waits[slow] = unready;
             let case = planned("write 100000", 400_000, "1 1 7", Plan::new(&waits, 64, 5));
-            let end = if unready == 100_000 {
-                "end 1 "
-            } else {
-                "end 0 "
-            };
+            let end = if unready == 100_000 { "end 1 " } else { "end 0 " };
             assert!(last(&case).starts_with(end), "{slow} {unready}");
         }
     }
@@ -229,24 +173,13 @@ fn every_wait_at_the_rust_limit() {
 #[test]
 fn the_largest_limit() {
     assert_eq!(last("flush 4294967295 100 2 0x80000000 0"), "end 0 2 2 2 1");
-    assert_eq!(
-        last("flush 4294967295 100 2 0x80000000 0x80000000"),
-        "end 11 2 2 2 2"
-    );
+    assert_eq!(last("flush 4294967295 100 2 0x80000000 0x80000000"), "end 11 2 2 2 2");
 }
 
 #[test]
 fn overlapping_windows() {
     // Reads into 0..2, sends 1..3 as they stand.
-    let case = planned(
-        "transaction 3",
-        8192,
-        "8 3 0 2 1 2 0 0 0 3 3 1 2 3",
-        Plan::new(&[0], 64, 9),
-    );
-    let sent: Vec<String> = lines(&case)
-        .into_iter()
-        .filter(|l| l.starts_with('b'))
-        .collect();
+    let case = planned("transaction 3", 8192, "8 3 0 2 1 2 0 0 0 3 3 1 2 3", Plan::new(&[0], 64, 9));
+    let sent: Vec<String> = lines(&case).into_iter().filter(|l| l.starts_with('b')).collect();
     assert_eq!(sent, ["b 0200 00000002", "b 0200 00000003"]);
 }

@@ -1,5 +1,6 @@
 //! One case: read, run, written.
 
+use crate::lines::answer_each;
 use crate::program;
 use crate::words::Words;
 use qspi::{Ended, Lent, by_number};
@@ -43,11 +44,7 @@ fn call(
     let answers = w.list()?;
     w.end()?;
     let mut log = vec![UNTOUCHED; log_words];
-    let e = f(&mut Lent {
-        limit,
-        log: &mut log,
-        answers: &answers,
-    });
+    let e = f(&mut Lent { limit, log: &mut log, answers: &answers });
     ended(e, &log, out)
 }
 
@@ -105,9 +102,7 @@ fn open(w: &mut Words, out: &mut String) -> Result<(), String> {
 
 fn free(w: &mut Words, out: &mut String) -> Result<(), String> {
     let (instance, log_words) = (w.u32()?, w.usize()?);
-    call(1, log_words, w, out, |lent| {
-        qspi::free(lent.log, lent.answers, instance)
-    })
+    call(1, log_words, w, out, |lent| qspi::free(lent.log, lent.answers, instance))
 }
 
 fn write(w: &mut Words, out: &mut String) -> Result<(), String> {
@@ -118,9 +113,7 @@ fn write(w: &mut Words, out: &mut String) -> Result<(), String> {
 fn read(w: &mut Words, out: &mut String) -> Result<(), String> {
     let (limit, log_words, mut bytes) = (w.u32()?, w.usize()?, w.bytes()?);
     let given = bytes.clone();
-    call(limit, log_words, w, out, |lent| {
-        qspi::read(lent, &mut bytes)
-    })?;
+    call(limit, log_words, w, out, |lent| qspi::read(lent, &mut bytes))?;
     changes(&given, &bytes, out);
     Ok(())
 }
@@ -129,9 +122,7 @@ fn transfer(w: &mut Words, out: &mut String) -> Result<(), String> {
     let (limit, log_words) = (w.u32()?, w.usize()?);
     let (mut bytes, sent) = (w.bytes()?, w.bytes()?);
     let given = bytes.clone();
-    call(limit, log_words, w, out, |lent| {
-        qspi::transfer(lent, &mut bytes, &sent)
-    })?;
+    call(limit, log_words, w, out, |lent| qspi::transfer(lent, &mut bytes, &sent))?;
     changes(&given, &bytes, out);
     Ok(())
 }
@@ -144,19 +135,15 @@ fn flush(w: &mut Words, out: &mut String) -> Result<(), String> {
 fn inplace(w: &mut Words, out: &mut String) -> Result<(), String> {
     let (limit, log_words, mut bytes) = (w.u32()?, w.usize()?, w.bytes()?);
     let given = bytes.clone();
-    call(limit, log_words, w, out, |lent| {
-        qspi::transfer_in_place(lent, &mut bytes)
-    })?;
+    call(limit, log_words, w, out, |lent| qspi::transfer_in_place(lent, &mut bytes))?;
     changes(&given, &bytes, out);
     Ok(())
 }
 
 fn mode(w: &mut Words, out: &mut String) -> Result<(), String> {
     let (limit, log_words) = (w.u32()?, w.usize()?);
-    let (qpi, mode) = (w.up_to(1)? == 1, w.u32()?);
-    call(limit, log_words, w, out, |lent| {
-        by_number::set_work_mode(lent, qpi, mode)
-    })
+    let (qpi, mode) = (w.flag()?, w.u32()?);
+    call(limit, log_words, w, out, |lent| by_number::set_work_mode(lent, qpi, mode))
 }
 
 fn quadread(w: &mut Words, out: &mut String) -> Result<(), String> {
@@ -165,15 +152,8 @@ fn quadread(w: &mut Words, out: &mut String) -> Result<(), String> {
     let (tclqv_ns, margin) = (w.u32()?, w.up_to(255)? as u8);
     let mut bytes = w.bytes()?;
     let given = bytes.clone();
-    let asked = qspi::QuadRead {
-        hz,
-        command: &command,
-        tclqv_ns,
-        margin,
-    };
-    call(limit, log_words, w, out, |lent| {
-        qspi::read_quad(lent, &asked, &mut bytes)
-    })?;
+    let asked = qspi::QuadRead { hz, command: &command, tclqv_ns, margin };
+    call(limit, log_words, w, out, |lent| qspi::read_quad(lent, &asked, &mut bytes))?;
     changes(&given, &bytes, out);
     Ok(())
 }
@@ -181,18 +161,14 @@ fn quadread(w: &mut Words, out: &mut String) -> Result<(), String> {
 fn quadwrite(w: &mut Words, out: &mut String) -> Result<(), String> {
     let (limit, log_words) = (w.u32()?, w.usize()?);
     let (command, data) = (w.bytes()?, w.bytes()?);
-    call(limit, log_words, w, out, |lent| {
-        qspi::write_quad(lent, &command, &data)
-    })
+    call(limit, log_words, w, out, |lent| qspi::write_quad(lent, &command, &data))
 }
 
 fn transaction(w: &mut Words, out: &mut String) -> Result<(), String> {
     let (limit, log_words) = (w.u32()?, w.usize()?);
     let (records, mut memory) = (w.list()?, w.bytes()?);
     let given = memory.clone();
-    call(limit, log_words, w, out, |lent| {
-        qspi::transaction(lent, &mut memory, &records)
-    })?;
+    call(limit, log_words, w, out, |lent| qspi::transaction(lent, &mut memory, &records))?;
     changes(&given, &memory, out);
     Ok(())
 }
@@ -238,7 +214,7 @@ fn print(w: &mut Words, out: &mut String) -> Result<(), String> {
 }
 
 /// Answers one case line.
-pub fn answer(line: &str, out: &mut String) -> Result<(), String> {
+fn answer(line: &str, out: &mut String) -> Result<(), String> {
     let w = &mut Words::new(line);
     let name = w.name()?;
     match CASES.iter().find(|(known, _)| *known == name) {
@@ -247,21 +223,9 @@ pub fn answer(line: &str, out: &mut String) -> Result<(), String> {
     }
 }
 
-/// Answers every case of the input: its lines, then a line with one full stop.
-pub fn answer_all(input: impl BufRead, mut output: impl Write) -> io::Result<()> {
-    for line in input.lines() {
-        let line = line?;
-        if line.trim().is_empty() || line.starts_with('#') {
-            continue;
-        }
-        let mut text = String::new();
-        match answer(&line, &mut text) {
-            Ok(()) => output.write_all(text.as_bytes())?,
-            Err(why) => writeln!(output, "error {why}")?,
-        }
-        output.write_all(b".\n")?;
-    }
-    output.flush()
+/// Answers every case of the input.
+pub fn answer_all(input: impl BufRead, output: impl Write) -> io::Result<()> {
+    answer_each(input, output, answer)
 }
 
 #[cfg(test)]
@@ -270,10 +234,7 @@ mod tests {
 
     /// A case of each name, and the last line of its answer.
     const ONE_OF_EACH: [(&str, &str); 16] = [
-        (
-            "open 2 0 1 0 0 0 0 0 0 0 10000000 1200000000 24000000 0 1 9 0",
-            "rate 0",
-        ),
+        ("open 2 0 1 0 0 0 0 0 0 0 10000000 1200000000 24000000 0 1 9 0", "rate 0"),
         ("free 0 4 1 0xffffffff", "end 0 2 1 0 0"),
         ("write 0 10 1 0 0", "end 7 0 0 0 0"),
         ("read 1 40 1 0 8 1 1 1 1 1 1 1 1", "m 00000000 01"),

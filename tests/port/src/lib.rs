@@ -1,10 +1,11 @@
 //! Cases in, what the port did out, in the text form that the oracle speaks too.
 #![forbid(unsafe_code)]
 
-pub mod answer;
+mod answer;
+#[path = "../../oracle/src/lines.rs"]
+mod lines;
 mod program;
 #[path = "../../oracle/src/words.rs"]
-pub mod words;
+mod words;
 
-/// The calls on any numbers, for other programs that run the port.
-pub use qspi::by_number as exports;
+pub use answer::answer_all;

@@ -4,5 +4,5 @@ use std::io;
 
 fn main() -> io::Result<()> {
     let output = io::BufWriter::new(io::stdout().lock());
-    port::answer::answer_all(io::stdin().lock(), output)
+    port::answer_all(io::stdin().lock(), output)
 }

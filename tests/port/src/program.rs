@@ -7,10 +7,7 @@ const PROGRAM: &str = concat!(env!("CARGO_MANIFEST_DIR"), "/../../target/bin/qsp
 
 /// What the program prints for these bytes. It reads before it writes, so that neither side waits for the other.
 pub fn printed(bytes: &[u8]) -> io::Result<String> {
-    let mut process = Command::new(PROGRAM)
-        .stdin(Stdio::piped())
-        .stdout(Stdio::piped())
-        .spawn()?;
+    let mut process = Command::new(PROGRAM).stdin(Stdio::piped()).stdout(Stdio::piped()).spawn()?;
     let mut stdin = process.stdin.take().expect("it is a pipe");
     // Of too long a sheet the program does not read the rest.
     let _ = stdin.write_all(bytes);
@@ -61,10 +58,7 @@ mod tests {
             assert_eq!(sheet([1, 0, 0, 0x0800_0000, 0], &[], length), SHEET);
             assert_eq!(sheet([1, 0, 0, 0, 0xFFFF_FFFF], &[], length), SHEET);
             assert_eq!(sheet([1, 0, 0, 0, 0x4000_0000], &[], length), SHEET);
-            assert_eq!(
-                sheet([1, 0, 0, 0x0400_0000, 0x2000_0000], &[], length),
-                SHEET
-            );
+            assert_eq!(sheet([1, 0, 0, 0x0400_0000, 0x2000_0000], &[], length), SHEET);
         }
     }
 

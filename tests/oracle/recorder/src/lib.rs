@@ -81,10 +81,7 @@ impl Recorder {
         if self.record.log.len() >= self.capacity {
             return Err(Cut(10));
         }
-        let asked = Asked {
-            place,
-            poll: if op == 1 { self.wait } else { None },
-        };
+        let asked = Asked { place, poll: if op == 1 { self.wait } else { None } };
         let source = self.source.as_mut().expect("no run was begun");
         let answer = source(&self.record, asked).ok_or(Cut(11))?;
         self.record.answers.push(answer);
@@ -194,13 +191,18 @@ pub fn countdown() -> Countdown {
 impl SubAssign<u64> for Countdown {
     fn sub_assign(&mut self, one: u64) {
         self.left -= one;
-        RECORDER.with(|r| {
-            let r = &mut *r.borrow_mut();
-            let unready = r.wait.unwrap_or(0) + 1;
-            r.wait = Some(unready);
-            r.record.longest = r.record.longest.max(unready);
-        })
+        unready();
     }
+}
+
+/// Counts an unready poll of the wait under way.
+fn unready() {
+    RECORDER.with(|r| {
+        let r = &mut *r.borrow_mut();
+        let unready = r.wait.unwrap_or(0) + 1;
+        r.wait = Some(unready);
+        r.record.longest = r.record.longest.max(unready);
+    })
 }
 
 impl PartialEq<u64> for Countdown {

@@ -26,8 +26,7 @@ impl List {
         for a in answers {
             write!(line, " {a:#x}").unwrap();
         }
-        self.cases
-            .push(line.split_whitespace().collect::<Vec<_>>().join(" "));
+        self.cases.push(line.split_whitespace().collect::<Vec<_>>().join(" "));
     }
 
     /// The same with its log or its answers cut in some places.
@@ -42,7 +41,7 @@ impl List {
     }
 
     fn plan(&mut self, unready: &[u64], portion: u32) -> Plan {
-        Plan::new(unready, portion, self.random.next())
+        Plan::new(unready, portion, self.random.number())
     }
 
     /// `LENGTH GIVEN b1 ..`: all bytes given.
@@ -62,8 +61,8 @@ impl List {
 const LIMITS: [u64; 5] = [1, 2, 3, 5, 100_000];
 const LENGTHS: [usize; 10] = [0, 1, 2, 63, 64, 65, 255, 256, 257, 512];
 
-/// Writes, reads, transfers and in-place calls: every length ready, every wait slow, short ones cut everywhere.
-fn transfers(l: &mut List) {
+/// Writes, reads, transfers and in-place calls of every length, every wait ready.
+fn ready_transfers(l: &mut List) {
     for length in LENGTHS {
         let bytes = l.bytes(length);
         let sized = format!("{length} 0");
@@ -75,25 +74,26 @@ fn transfers(l: &mut List) {
             l.planned("transfer 5", ENOUGH, &format!("{sized} {bytes}"), &plan);
         }
     }
+}
+
+/// Writes, reads and transfers with one wait slow or timed out.
+fn slow_transfers(l: &mut List) {
     for limit in LIMITS {
         for slow in [0, 1, 2, 3, 4] {
-            let waits: Vec<u64> = (0..6)
-                .map(|i| if i == slow { limit.min(5) } else { 0 })
-                .collect();
+            let waits: Vec<u64> = (0..6).map(|i| if i == slow { limit.min(5) } else { 0 }).collect();
             let fast: Vec<u64> = waits.iter().map(|&n| n.min(limit - 1).min(4)).collect();
             for unready in [waits, fast] {
                 let (bytes, plan) = (l.bytes(5), l.plan(&unready, 3));
                 l.planned(&format!("write {limit}"), ENOUGH, &bytes, &plan);
                 l.planned(&format!("read {limit}"), ENOUGH, "5 0", &plan);
-                l.planned(
-                    &format!("transfer {limit}"),
-                    ENOUGH,
-                    &format!("2 0 {bytes}"),
-                    &plan,
-                );
+                l.planned(&format!("transfer {limit}"), ENOUGH, &format!("2 0 {bytes}"), &plan);
             }
         }
     }
+}
+
+/// Writes and reads cut everywhere, and an in-place call cut in each of its parts and in each half of them.
+fn cut_transfers(l: &mut List) {
     let (bytes, plan) = (l.bytes(3), l.plan(&[1, 0], 2));
     let odd: Vec<usize> = (0..46).collect();
     let few: Vec<usize> = (0..14).collect();
@@ -103,7 +103,6 @@ fn transfers(l: &mut List) {
     let wide = l.plan(&[0], 255);
     l.planned("read 3", ENOUGH, "300 0", &wide);
     l.cut("read 3", "4 4 1 2 3 4", &wide, &[24, 26, 28, 30], &[]);
-    // In place, cut in each of its parts and in each half of them.
     let (bytes, plan) = (l.bytes(300), l.plan(&[0], 200));
     l.cut(
         "inplace 2",
@@ -122,13 +121,7 @@ fn modes(l: &mut List) {
             l.planned(&format!("flush {limit}"), ENOUGH, "", &plan);
         }
     }
-    l.cut(
-        "flush 3",
-        "",
-        &Plan::new(&[2], 1, 7),
-        &[0, 1, 2, 3, 4, 5],
-        &[0, 1, 2],
-    );
+    l.cut("flush 3", "", &Plan::new(&[2], 1, 7), &[0, 1, 2, 3, 4, 5], &[0, 1, 2]);
     for chip in [0, 1] {
         for mode in 0..7 {
             for unready in [0, 2, 3] {
@@ -138,52 +131,35 @@ fn modes(l: &mut List) {
         }
         let plan = l.plan(&[1], 64);
         for mode in [1, 4, 6] {
-            l.cut(
-                "mode 2",
-                &format!("{chip} {mode}"),
-                &plan,
-                &[0, 2, 4, 5, 6, 8, 10],
-                &[0, 1, 2, 3],
-            );
+            l.cut("mode 2", &format!("{chip} {mode}"), &plan, &[0, 2, 4, 5, 6, 8, 10], &[0, 1, 2, 3]);
         }
     }
 }
 
-/// Quad calls: every part slow, failing before, in and after the data, and cut.
-fn quads(l: &mut List) {
+/// Quad calls with one wait slow or timed out: before, in and after the data.
+fn slow_quads(l: &mut List) {
     for limit in [1, 2, 3, 100_000] {
         for slow in 0..8 {
-            let waits: Vec<u64> = (0..10)
-                .map(|i| if i == slow { limit.min(4) } else { 0 })
-                .collect();
+            let waits: Vec<u64> = (0..10).map(|i| if i == slow { limit.min(4) } else { 0 }).collect();
             let (command, data, plan) = (l.bytes(4), l.bytes(3), l.plan(&waits, 64));
             let read = format!("100000000 {command} 80 0 3 0");
             l.planned(&format!("quadread {limit}"), ENOUGH, &read, &plan);
-            l.planned(
-                &format!("quadwrite {limit}"),
-                ENOUGH,
-                &format!("{command} {data}"),
-                &plan,
-            );
+            l.planned(&format!("quadwrite {limit}"), ENOUGH, &format!("{command} {data}"), &plan);
         }
     }
-    // The data times out and Standard is still tried: it succeeds, is cut, or times out too.
+}
+
+/// Quad calls whose data times out, and Standard is still tried: it succeeds or is cut.
+fn cut_quads(l: &mut List) {
     let waits = [0, 0, 0, 0, 2, 0];
     let (command, plan) = (l.bytes(1), Plan::new(&waits, 64, 3));
-    l.cut(
-        "quadread 2",
-        &format!("1000000 {command} 0 0 2 0"),
-        &plan,
-        &[58, 60, 62, 64, 66, 68, 70],
-        &[16, 17, 18, 19, 20, 21],
-    );
-    l.cut(
-        "quadwrite 2",
-        &format!("{command} 2 2 1 2"),
-        &plan,
-        &[58, 60, 62, 64, 66, 68, 70],
-        &[16, 17, 18, 19, 20, 21],
-    );
+    let (log, answers) = ([58, 60, 62, 64, 66, 68, 70], [16, 17, 18, 19, 20, 21]);
+    l.cut("quadread 2", &format!("1000000 {command} 0 0 2 0"), &plan, &log, &answers);
+    l.cut("quadwrite 2", &format!("{command} 2 2 1 2"), &plan, &log, &answers);
+}
+
+/// Quad calls with every wait ready: commands that are cut for the dummies, short and empty ones.
+fn ready_quads(l: &mut List) {
     for (length, tclqv, margin) in [
         (0, 0, 0),
         (20, 0, 0),
@@ -196,12 +172,7 @@ fn quads(l: &mut List) {
         (3, 1, 255),
     ] {
         let (command, plan) = (l.bytes(length), l.plan(&[0], 64));
-        l.planned(
-            "quadread 3",
-            ENOUGH,
-            &format!("100000000 {command} {tclqv} {margin} 1 0"),
-            &plan,
-        );
+        l.planned("quadread 3", ENOUGH, &format!("100000000 {command} {tclqv} {margin} 1 0"), &plan);
         l.planned("quadwrite 3", ENOUGH, &format!("{command} 1 1 7"), &plan);
     }
     let plan = l.plan(&[0], 64);
@@ -230,13 +201,7 @@ fn chains(l: &mut List) {
             l.planned("transaction 2", ENOUGH, &format!("{chain} {memory}"), &plan);
         }
         let plan = l.plan(&[0, 1], 2);
-        l.cut(
-            "transaction 3",
-            &format!("{chain} {memory}"),
-            &plan,
-            &[0, 30, 44, 60],
-            &[3, 7, 12, 20],
-        );
+        l.cut("transaction 3", &format!("{chain} {memory}"), &plan, &[0, 30, 44, 60], &[3, 7, 12, 20]);
     }
 }
 
@@ -272,10 +237,7 @@ fn sheets(l: &mut List) {
         (0, &[]),
         (1, &[[1, 0, 3, 9, 9, 9, 9, 0]]),
         (0, &[[8, 0, 3, 0, 0, 1, 4, 2], [9, 1, 3, 9, 9, 0, 4, 0]]),
-        (
-            1,
-            &[[6, 9, 9, 9, 9, 9, 9, 3], [99; 8], [4, 0, 8, 9, 9, 9, 9, 0]],
-        ),
+        (1, &[[6, 9, 9, 9, 9, 9, 9, 3], [99; 8], [4, 0, 8, 9, 9, 9, 9, 0]]),
         (0, &EVERY_KIND),
         (1, &EVERY_KIND),
     ];
@@ -285,16 +247,13 @@ fn sheets(l: &mut List) {
             let asked = sheet_text(header, chain, &[], &memory);
             let answers = answered_by(&format!("sheet {asked}"), plan);
             for answers in [&answers[..], &answers[..answers.len().saturating_sub(1)]] {
-                l.call(&format!(
-                    "sheet {}",
-                    sheet_text(header, chain, answers, &memory)
-                ));
+                l.call(&format!("sheet {}", sheet_text(header, chain, answers, &memory)));
             }
         }
     }
 }
 
-/// Openings of every kind, and releases.
+/// Openings of every kind, and one that is cut.
 fn openings(l: &mut List) {
     let plan = Plan::new(&[0], 64, 11);
     for instance in 0..4 {
@@ -304,26 +263,11 @@ fn openings(l: &mut List) {
                     continue;
                 }
                 let (bit, lsb, mode) = (work & 1 ^ instance & 1, instance >> 1, (work & 1) * 2);
-                let select = format!(
-                    "{} {} {} {}",
-                    work % 3 % 2,
-                    instance & 1,
-                    instance >> 1,
-                    work & 1
-                );
-                let freq = [
-                    0,
-                    100_000,
-                    10_000_000,
-                    24_000_000,
-                    50_000_000,
-                    100_000_000,
-                    4_000_000_000u64,
-                ][work];
+                let select = format!("{} {} {} {}", work % 3 % 2, instance & 1, instance >> 1, work & 1);
+                let freq = [0, 100_000, 10_000_000, 24_000_000, 50_000_000, 100_000_000, 4_000_000_000u64][work];
                 let pll = [1_200_000_000, 24_000_000, 3_200_000_031, 3_200_000_032u64][instance];
-                let head = format!(
-                    "open {instance} {mode} {chip} {work} {bit} {lsb} {select} {freq} {pll} 24000000 {chip} 5"
-                );
+                let head =
+                    format!("open {instance} {mode} {chip} {work} {bit} {lsb} {select} {freq} {pll} 24000000 {chip} 5");
                 l.planned(&head, ENOUGH, "", &plan);
             }
         }
@@ -332,6 +276,10 @@ fn openings(l: &mut List) {
     let log: Vec<usize> = (0..66).step_by(3).collect();
     let few: Vec<usize> = (0..15).collect();
     l.cut(head, "", &plan, &log, &few);
+}
+
+fn releases(l: &mut List) {
+    let plan = Plan::new(&[0], 64, 11);
     for instance in [0, 1, 2, 3, 4, 200] {
         l.planned(&format!("free {instance}"), 4, "", &plan);
         l.planned(&format!("free {instance}"), 3, "", &plan);
@@ -340,7 +288,7 @@ fn openings(l: &mut List) {
     l.call("free 0 4 0");
 }
 
-/// Clock choices, rates and dummies at ties and edges.
+/// Clock choices and rates at ties and edges.
 fn clocks(l: &mut List) {
     let plls = [
         0,
@@ -356,18 +304,7 @@ fn clocks(l: &mut List) {
         3_200_000_032,
         u32::MAX,
     ];
-    let targets = [
-        0,
-        1,
-        99_999,
-        100_000,
-        8_000_000,
-        10_000_000,
-        24_000_000,
-        99_999_999,
-        100_000_000,
-        u32::MAX,
-    ];
+    let targets = [0, 1, 99_999, 100_000, 8_000_000, 10_000_000, 24_000_000, 99_999_999, 100_000_000, u32::MAX];
     for pll in plls {
         for target in targets {
             l.call(&format!("clock {pll} {target}"));
@@ -377,45 +314,26 @@ fn clocks(l: &mut List) {
         l.call(&format!("sck 1200000000 {m} {kind} {c}"));
         l.call(&format!("sck 4294967295 {m} {kind} {c}"));
     }
-    for tclqv in [
-        0,
-        1,
-        79,
-        80,
-        81,
-        20_399,
-        20_400,
-        20_401,
-        20_480,
-        20_481,
-        u32::MAX,
-    ] {
-        for (rate, margin) in [
-            (0, 0),
-            (1, 0),
-            (100_000_000, 0),
-            (100_000_000, 1),
-            (100_000_000, 3),
-            (100_000_000, 255),
-            (u32::MAX, 0),
-        ] {
+}
+
+/// Dummies at ties and edges.
+fn dummies(l: &mut List) {
+    for tclqv in [0, 1, 79, 80, 81, 20_399, 20_400, 20_401, 20_480, 20_481, u32::MAX] {
+        for (rate, margin) in
+            [(0, 0), (1, 0), (100_000_000, 0), (100_000_000, 1), (100_000_000, 3), (100_000_000, 255), (u32::MAX, 0)]
+        {
             l.call(&format!("dummy {rate} {tclqv} {margin}"));
         }
     }
 }
 
 fn main() {
-    let mut l = List {
-        cases: Vec::new(),
-        random: Random(1),
-    };
-    transfers(&mut l);
-    modes(&mut l);
-    quads(&mut l);
-    chains(&mut l);
-    openings(&mut l);
-    clocks(&mut l);
-    sheets(&mut l);
+    let mut l = List { cases: Vec::new(), random: Random(1) };
+    let parts = [
+        ready_transfers, slow_transfers, cut_transfers, modes, slow_quads, cut_quads, ready_quads, chains, openings,
+        releases, clocks, dummies, sheets,
+    ];
+    parts.iter().for_each(|part| part(&mut l));
     for case in &l.cases {
         let mut text = String::new();
         answer(case, &mut text).unwrap_or_else(|why| panic!("{case}: {why}"));

@@ -47,12 +47,7 @@ static STATE: Shared = Shared(UnsafeCell::new(State {
     room: 0,
     answers: null(),
     answer_count: 0,
-    counts: Counts {
-        entries: 0,
-        taken: 0,
-        polls: 0,
-        longest: 0,
-    },
+    counts: Counts { entries: 0, taken: 0, polls: 0, longest: 0 },
     waiting: 0,
     block: 0,
     clocks: [0; 4],
@@ -102,12 +97,7 @@ impl State {
         if offset <= 0x300 {
             offset as u32
         } else {
-            0x1000
-                + self
-                    .clocks
-                    .iter()
-                    .position(|&c| c == address)
-                    .map_or(0, |i| i as u32)
+            0x1000 + self.clocks.iter().position(|&c| c == address).map_or(0, |i| i as u32)
         }
     }
 
@@ -202,10 +192,7 @@ pub struct Countdown {
 pub fn countdown() -> Countdown {
     let s = state();
     s.waiting = 1;
-    Countdown {
-        left: s.limit,
-        unready: 0,
-    }
+    Countdown { left: s.limit, unready: 0 }
 }
 
 impl SubAssign<u32> for Countdown {

@@ -60,9 +60,6 @@ pub mod spi {
     }
 
     pub trait SpiDevice<Word = u8>: ErrorType {
-        fn transaction(
-            &mut self,
-            operations: &mut [Operation<'_, Word>],
-        ) -> Result<(), Self::Error>;
+        fn transaction(&mut self, operations: &mut [Operation<'_, Word>]) -> Result<(), Self::Error>;
     }
 }
