@@ -226,7 +226,7 @@ uint32_t qspi_transaction(uint32_t limit, uint32_t *log, size_t log_len, const u
  * above 1), before anything else; 7 for limit 0; 8, 9 along the chain; then as met at an access: 10, 11, or 1 in a wait; 2
  * for the work mode QPI on a chip without it; else 0. A sheet's memory is too short for 6.
  * Writes in `bytes` only what is got into the memory; header, records and answers keep their values.
- * Needs some 67,000 bytes of stack, far more than the other calls: it copies records and answers to a buffer.
+ * Needs some 72,000 bytes of stack, far more than the other calls: it copies records and answers to a buffer.
  */
 uint32_t qspi_sheet(uint8_t *bytes, size_t bytes_len, uint32_t *log, size_t log_len, size_t *entries, size_t *taken,
                     size_t *polls, uint32_t *longest);

@@ -190,7 +190,7 @@ pub fn transaction(lent: &mut Lent, memory: &mut [u8], words: &[u32]) -> Ended {
 }
 
 /// Runs a whole sheet, whose memory is at the end of its bytes. [`Sheet`](crate::Sheet) makes the bytes; any others are tested
-/// first. Gives 0, 1, 2, 7, 8, 9, 10, 11 or 13. It needs some 67,000 bytes of stack.
+/// first. Gives 0, 1, 2, 7, 8, 9, 10, 11 or 13. It needs some 72,000 bytes of stack.
 pub fn sheet(bytes: &mut [u8], log: &mut [u32]) -> Ended {
     // SAFETY: every pointer and its length are those of a slice, and what is written is lent exclusively.
     counted(|counts| unsafe {
