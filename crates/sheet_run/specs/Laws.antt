@@ -8,6 +8,8 @@ use Rattle.model.specs.Limit.{Ended, AgainCall}
 use Rattle.sheet.specs.Words.{spell, Below}
 use Rattle.records.specs.Check.{checked}
 use Rattle.chain.specs.Transaction.{refusal}
+use Rattle.sheet.specs.declared.Opened.{Opened}
+use Rattle.sheet.specs.Open.{numberOf}
 use Rattle.sheet.specs.Sheet.{Sheet, Parsed, refused, sheet, parse, continuedBytes}
 use Rattle.sheet_run.specs.Run.{sheetOutcome, sheetState}
 use Rattle.sheet_run.specs.Print.{marked, printedSheet}
@@ -35,7 +37,7 @@ LinesAgain =
 
 -- what a sheet is refused by, or 0: 13, which precedes the rest, then 7, then the first fault along its chain
 unfoldable pub sheetRefusal : Parsed → ℕ
-sheetRefusal refused = 13
+sheetRefusal refused = numberOf Opened.Refused
 sheetRefusal (sheet s) = refusal (s .limit) (checked 9 (length (s .memory)) (s .records))
 
 -- A refusal touches neither log nor bytes, and all counts are 0.
