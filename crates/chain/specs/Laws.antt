@@ -1,12 +1,14 @@
--- Demand 3 for a chain as one run, and what a refusal leaves.
+-- Demand 3 for a chain as one run, what a refusal leaves, and what a record's steps do not look at.
 use mathlib.Core.Path.{_≡_}
-use mathlib.Core.Bool.{false}
+use mathlib.Core.Bool.{Bool, false}
 use mathlib.Core.List.{List, [], _∷_, _++_}
 use Prim.Native.Nat.{ℕ, _<_}
 use lib.ListN.{length, replicate}
 use Rattle.model.specs.State.{State, begun, withNumber}
 use Rattle.model.specs.Limit.{Ended, AgainCall}
 use Rattle.records.specs.Check.{checked}
+use Rattle.records.specs.Laws.{Alike}
+use Rattle.chain.specs.Chain.{recordSteps}
 use Rattle.chain.specs.Transaction.{Chain, refusal, outcome, transaction}
 
 abbrev pub ChainAgain : Type 0
@@ -23,6 +25,10 @@ ChainRefused =
 -- A transaction never gives 2: kinds 1 to 5 set no mode.
 abbrev pub TransactionNever2 : Type 0
 TransactionNever2 = (words : List ℕ) (limit : ℕ) (answers log m : List ℕ) → outcome (transaction words) limit answers log m .number ≡ 2 → ⊥
+
+-- Unused fields are not looked at: records that differ at most there run alike. An instance of such records is in `records`.
+abbrev pub UnusedFieldsRun : Type 0
+UnusedFieldsRun = (r s : List ℕ) → Alike r s → (rate : ℕ) (qpi : Bool) → recordSteps rate qpi r ≡ recordSteps rate qpi s
 
 -- a chain of one flush, whose first poll is unready
 abbrev pub flushed : ℕ → State

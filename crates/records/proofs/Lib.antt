@@ -3,3 +3,4 @@ pub mod WalkLaws
 pub mod Lengths
 pub mod Settled
 pub mod Known
+pub mod Unused
