@@ -6,8 +6,8 @@ use mathlib.Core.List.{List, map}
 use native.Mathlib.Omega.{arith}
 use lib.Dec.{ltb}
 use Rattle.records.specs.Kinds.{Cap, kindOf}
-use Rattle.records.specs.Check.{field, any, outOfRange, extentIn, extentsFault, windowsFault, nextOf, recordFault}
-use Rattle.records.specs.Laws.{Same, Alike, UnusedFields, HypothesesMet}
+use Rattle.records.specs.Check.{field, any, outOfRange, extentIn, extentsFault, windowsFault, recordFault}
+use Rattle.records.specs.Laws.{Same, UnusedFields, HypothesesMet}
 use Rattle.records.specs.declared.Extent.{Extent}
 
 abbrev extents : ℕ → List ℕ → List Extent
