@@ -14,7 +14,8 @@ use Rattle.chain.specs.Chain.{chainSteps}
 unfoldable pub refusal : ℕ → Checked → ℕ
 refusal limit c = limitFirst limit (numberOf (verdict c))
 
--- a chain on a bus: its rate, whether the chip has QPI, the highest kind that is taken, and the words of the records
+-- what is to be run: the words of all records, in which `checked` finds document 01's *chain*, the highest kind that is taken, the rate of the
+-- bus, and whether its chip has QPI
 pub record Chain : Type 0 where
   pub rate : ℕ
   pub qpi : Bool

@@ -58,7 +58,7 @@ unfoldable pub recordFault : ℕ → ℕ → ℕ → ℕ → List ℕ → ℕ
 recordFault highest memory count own r =
     cond (known highest (field r 0)) (cond (outOfRange r) 8 (cond (nextFits own count (nextOf r)) (windowsFault memory r) 8)) 8
 
--- the first fault with its number and its record (0: the slice itself), or document 01's *chain*: the records from the first on, each followed by its next
+-- the first fault with its number and its record (0: the slice itself), or document 01's *chain*: its records, in order
 pub data Checked : Type 0 where
   fault : ℕ → ℕ → Checked
   chain : List (List ℕ) → Checked
