@@ -10,31 +10,22 @@ use Rattle.access.specs.declared.progress.Progress.{Progress}
 use Rattle.access.specs.Of.{begun, withNumber}
 use Rattle.access.specs.Does.{Runs}
 use Rattle.records.specs.declared.Verdict.{Verdict}
-use Rattle.records.specs.Check.{Checked, checked, verdict, chainOf}
+use Rattle.records.specs.Check.{Checked, checked, verdict, numberOf, chainOf}
 use Rattle.records.specs.Laws.{EachFault}
 use Rattle.records.proofs.Lengths.{fault-numbers}
 use Rattle.chain.specs.Chain.{chainSteps}
-use Rattle.chain.specs.Transaction.{Chain, faultNumber, refusal, outcome, Transacts}
+use Rattle.chain.specs.Transaction.{Chain, refusal, outcome, Transacts}
 use Rattle.chain.specs.Laws.{ChainAgain, ChainRefused}
-
--- the number of a verdict
-abbrev numberOf : Verdict → ℕ
-numberOf (Verdict.Fault n i) = n
-numberOf Verdict.Fine = 0
-
-number-is : (c : Checked) → numberOf (verdict c) ≡ faultNumber c
-number-is (Checked.fault n i) = refl
-number-is (Checked.chain rs) = refl
 
 pub refused-by : {limit : ℕ} {v : Verdict} (c : Checked) → (limit ≡ 0 → ⊥) → v ≡ verdict c → numberOf v ≡ refusal limit c
 unfolding refusal
-refused-by {limit} c i e = ap numberOf e ∙ number-is c ∙ sym (limit-passed limit (faultNumber c) i)
+refused-by {limit} c i e = ap numberOf e ∙ sym (limit-passed limit (numberOf (verdict c)) i)
 
 -- a fault's number is neither 0 nor 2
 fault-not : (n k : ℕ) → (n ≡ 6) ⊎ (n ≡ 8) ⊎ (n ≡ 9) → k < 6 → n ≡ k → ⊥
 fault-not n k f h z = ⊎-elim (λ e. omega (arith, e, h, z)) (⊎-elim (λ e. omega (arith, e, h, z)) (λ e. omega (arith, e, h, z))) f
 
-found-not : (c : Checked) (k : ℕ) → EachFault (λ n. (n ≡ 6) ⊎ (n ≡ 8) ⊎ (n ≡ 9)) c → k < 6 → faultNumber c ≡ k → (k ≡ 0) × (verdict c ≡ Verdict.Fine)
+found-not : (c : Checked) (k : ℕ) → EachFault (λ n. (n ≡ 6) ⊎ (n ≡ 8) ⊎ (n ≡ 9)) c → k < 6 → numberOf (verdict c) ≡ k → (k ≡ 0) × (verdict c ≡ Verdict.Fine)
 found-not (Checked.fault n i) k f h e = absurd (fault-not n k f h e)
 found-not (Checked.chain rs) k f h e = (sym e, refl)
 
@@ -44,7 +35,7 @@ pub accepted : (highest memory : ℕ) (ws : List ℕ) {limit n : ℕ} → n ≡ 
 unfolding refusal
 accepted highest memory ws {limit} e z =
     let found = checked highest memory ws in
-    let h = limit-accepted limit (faultNumber found) (sym e ∙ z) in
+    let h = limit-accepted limit (numberOf (verdict found)) (sym e ∙ z) in
     (h .0, found-not found 0 (fault-numbers highest memory ws) (omega arith) (h .1) .1)
 
 module _ (c : Chain) {limit n : ℕ} (answers log m : List ℕ) (e : n ≡ refusal limit (checked (c .highest) (length m) (c .words))) where
@@ -60,7 +51,7 @@ module _ (c : Chain) {limit n : ℕ} (answers log m : List ℕ) (e : n ≡ refus
   runs-transacts z b d =
       record { state = (rw b at (d .state)) ∙ rw (← e) (sym (called-runs (chainSteps (c .rate) (c .qpi) (chainOf (checked (c .highest) (length m) (c .words)))) limit answers log m z)) }
 
-pub never-two : (highest memory : ℕ) (ws : List ℕ) → faultNumber (checked highest memory ws) ≡ 2 → ⊥
+pub never-two : (highest memory : ℕ) (ws : List ℕ) → numberOf (verdict (checked highest memory ws)) ≡ 2 → ⊥
 never-two highest memory ws h =
     let z = found-not (checked highest memory ws) 2 (fault-numbers highest memory ws) (omega arith) h .0 in
     omega (arith, z)
@@ -69,7 +60,7 @@ pub chain-again : ChainAgain
 unfolding outcome refusal
 chain-again c limit limit' answers more log m =
     let found = checked (c .highest) (length m) (c .words) in
-    another-limit-first (faultNumber found) (chainSteps (c .rate) (c .qpi) (chainOf found)) limit limit' answers more log m
+    another-limit-first (numberOf (verdict found)) (chainSteps (c .rate) (c .qpi) (chainOf found)) limit limit' answers more log m
     (never-two (c .highest) (length m) (c .words))
 
 pub chain-refused : ChainRefused

@@ -2,18 +2,24 @@
 use mathlib.Core.Path.{refl}
 use mathlib.Core.Logic.{inl}
 use native.Mathlib.Omega.{arith}
-use Rattle.model.specs.Field.{getField}
-use Rattle.model.specs.Event.{headOf, valueOf, answerOf, answersOf, receive, words, stored}
+use Rattle.model.specs.Field.{getField, setField}
+use Rattle.model.specs.Event.{headOf, valueOf, answerOf, answersOf, receive, received, words, stored}
 use Rattle.model.specs.Tally.{plus, pollTally, tallyEvent, tallyOf}
-use Rattle.model.specs.Steps.{then, waitFor}
+use Rattle.model.specs.Steps.{then, finally, change, waitFor}
 use Rattle.model.specs.Run.{entered, answered, poll, run}
 use Rattle.model.specs.State.{roomOf, ran, onward, advance, called}
+use Rattle.config.specs.Config.{modeAt}
+use Rattle.qspi.specs.Phases.{resetFifos, programTransfer, startTransfer, beginTransfer, moved, movedAll, paced, gots, txPhase, rxPhase}
+use Rattle.mode.specs.Mode.{lines, qpiMode, modeChanges, workMode}
+use Rattle.windows.specs.Windows.{framed, quadMode, standardMode, quadStart, quadSteps, window, readQuadWindows, writeQuadWindows}
 use Rattle.records.specs.Check.{outOfRange, extentsFault, windowsFault, recordFault, recordsIn, along, checked}
 use Rattle.chain.specs.Chain.{recordSteps, chainSteps}
 use Rattle.chain.specs.Transaction.{refusal, outcome}
 use Rattle.chain.specs.Laws.{HypothesesMet}
 
 pub hypotheses-met : HypothesesMet
-unfolding getField headOf valueOf answerOf answersOf receive words stored plus pollTally tallyEvent tallyOf then waitFor entered answered poll run roomOf ran
-    onward advance called outOfRange extentsFault windowsFault recordFault recordsIn along checked recordSteps chainSteps refusal outcome
-hypotheses-met = record { ended = inl refl; unready = omega arith; refused = λ h. omega (arith, h) }
+unfolding getField setField headOf valueOf answerOf answersOf receive received words stored plus pollTally tallyEvent tallyOf then finally change waitFor
+    entered answered poll run roomOf ran onward advance called modeAt resetFifos programTransfer startTransfer beginTransfer moved movedAll paced gots
+    txPhase rxPhase lines qpiMode modeChanges workMode framed quadMode standardMode quadStart quadSteps window readQuadWindows writeQuadWindows outOfRange
+    extentsFault windowsFault recordFault recordsIn along checked recordSteps chainSteps refusal outcome
+hypotheses-met = record { ended = inl refl; unready = omega arith; late = refl; unsupported = refl; received = refl; refused = λ h. omega (arith, h) }

@@ -4,3 +4,4 @@ pub mod Entry
 pub mod Polls
 pub mod Instances
 pub mod Never2
+pub mod Unused

@@ -19,11 +19,11 @@ use Rattle.model.proofs.Supported.{supported-never-2, then-supported}
 use Rattle.qspi.proofs.Supported.{tx-supported, rx-supported}
 use Rattle.transfer.specs.Transfer.{transferSteps, partSteps, parts, inPlaceSteps}
 use Rattle.windows.specs.Windows.{window, writeWindow, transferWindows}
-use Rattle.records.specs.Check.{field, known, checked, chainOf}
+use Rattle.records.specs.Check.{field, known, checked, verdict, numberOf, chainOf}
 use Rattle.records.specs.Laws.{Each}
 use Rattle.records.proofs.Known.{kinds-known}
 use Rattle.chain.specs.Chain.{kindSteps, recordSteps, chainSteps}
-use Rattle.chain.specs.Transaction.{faultNumber, refusal, outcome}
+use Rattle.chain.specs.Transaction.{refusal, outcome}
 use Rattle.chain.specs.Laws.{TransactionNever2}
 use Rattle.chain.proofs.Entry.{never-two}
 
@@ -79,4 +79,4 @@ unfolding outcome refusal
 transaction-never-2 words limit answers log m =
     let found = checked 5 (length m) words in
     called-not (refusal limit found) (chainSteps 0 false (chainOf found)) (chain-supported 0 false (chainOf found) (kinds-known 5 (length m) words)) limit answers log m
-    (limit-never limit (faultNumber found) 2 (omega arith) (never-two 5 (length m) words))
+    (limit-never limit (numberOf (verdict found)) 2 (omega arith) (never-two 5 (length m) words))

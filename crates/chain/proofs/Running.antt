@@ -13,7 +13,7 @@ use Rattle.access.specs.declared.progress.Progress.{Progress}
 use Rattle.access.specs.Of.{stateOf}
 use Rattle.access.specs.Does.{Sound, Runs}
 use Rattle.records.specs.declared.Verdict.{Verdict}
-use Rattle.records.specs.Check.{recordAt, nextOf, outOfRange, windowsFault, Checked, fault, chain, ahead, along, recordsIn, checked, verdict, chainOf}
+use Rattle.records.specs.Check.{recordAt, nextOf, outOfRange, windowsFault, Checked, fault, ahead, along, recordsIn, checked, verdict, chainOf}
 use Rattle.records.proofs.WalkLaws.{faultAt, nextAt, from, from-fault, from-last, from-on, passed, whole-empty, whole-from, in-range, sound-windows}
 use Rattle.chain.specs.Chain.{recordSteps, chainSteps}
 

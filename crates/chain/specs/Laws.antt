@@ -1,12 +1,14 @@
--- Demand 3 for a chain as one run, and what a refusal leaves.
+-- Demand 3 for a chain as one run, what a refusal leaves, and what a record's steps do not look at.
 use mathlib.Core.Path.{_≡_}
-use mathlib.Core.Bool.{false}
+use mathlib.Core.Bool.{Bool, false}
 use mathlib.Core.List.{List, [], _∷_, _++_}
 use Prim.Native.Nat.{ℕ, _<_}
 use lib.ListN.{length, replicate}
 use Rattle.model.specs.State.{State, begun, withNumber}
 use Rattle.model.specs.Limit.{Ended, AgainCall}
 use Rattle.records.specs.Check.{checked}
+use Rattle.records.specs.Laws.{Alike}
+use Rattle.chain.specs.Chain.{recordSteps}
 use Rattle.chain.specs.Transaction.{Chain, refusal, outcome, transaction}
 
 abbrev pub ChainAgain : Type 0
@@ -24,13 +26,33 @@ ChainRefused =
 abbrev pub TransactionNever2 : Type 0
 TransactionNever2 = (words : List ℕ) (limit : ℕ) (answers log m : List ℕ) → outcome (transaction words) limit answers log m .number ≡ 2 → ⊥
 
+-- Unused fields are not looked at: records that differ at most there run alike. An instance of such records is in `records`.
+abbrev pub UnusedFieldsRun : Type 0
+UnusedFieldsRun = (r s : List ℕ) → Alike r s → (rate : ℕ) (qpi : Bool) → recordSteps rate qpi r ≡ recordSteps rate qpi s
+
 -- a chain of one flush, whose first poll is unready
 abbrev pub flushed : ℕ → State
 flushed limit =
     outcome (record { rate = 0; qpi = false; highest = 9; words = 6 ∷ 0 ∷ 0 ∷ 0 ∷ 0 ∷ 0 ∷ 0 ∷ 0 ∷ [] }) limit (0x80000000 ∷ 0 ∷ []) (replicate 4 7) []
 
--- What the laws ask for can be had: a chain that ends in 0 after an unready poll, and one that is refused.
+-- a chain of a quad write and a quad read of one byte each, and then mode QPI, whose first poll is unready, on a chip without it
+abbrev pub quadWords : List ℕ
+quadWords = 9 ∷ 0 ∷ 1 ∷ 0 ∷ 0 ∷ 1 ∷ 1 ∷ 2 ∷ 8 ∷ 0 ∷ 1 ∷ 80 ∷ 0 ∷ 1 ∷ 1 ∷ 3 ∷ 7 ∷ 6 ∷ 0 ∷ 0 ∷ 0 ∷ 0 ∷ 0 ∷ 0 ∷ []
+
+abbrev pub quadAnswers : List ℕ
+quadAnswers = replicate 38 0 ++ (1 ∷ 0x5a ∷ 0 ∷ 0 ∷ 0 ∷ 0 ∷ 0x80000000 ∷ 0 ∷ [])
+
+-- with a log of 4,096 entries, as a sheet's
+abbrev pub quads : State
+quads =
+    outcome (record { rate = 100_000_000; qpi = false; highest = 9; words = quadWords }) 2 quadAnswers (replicate 8192 0) (0x9f ∷ 0 ∷ [])
+
+-- What the laws ask for can be had: a chain that ends in 0 after an unready poll, also at a limit that is not above its longest, where it
+-- ends in 1; one with quad records that ends in 2; and one that is refused.
 pub record HypothesesMet : Type 0 where
   pub ended : Ended (flushed 2 .number)
   pub unready : 0 < flushed 2 .tally .longest
+  pub late : flushed 1 .number ≡ 1
+  pub unsupported : quads .number ≡ 2
+  pub received : quads .memory ≡ 0x9f ∷ 0x5a ∷ []
   pub refused : refusal 0 (checked 9 0 []) ≡ 0 → ⊥

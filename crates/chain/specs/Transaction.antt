@@ -7,18 +7,15 @@ use lib.ListN.{length}
 use Rattle.model.specs.State.{State, limitFirst, called}
 use Rattle.access.specs.declared.progress.Progress.{Progress}
 use Rattle.access.specs.Of.{stateOf}
-use Rattle.records.specs.Check.{Checked, checked, chainOf}
+use Rattle.records.specs.Check.{Checked, checked, verdict, numberOf, chainOf}
 use Rattle.chain.specs.Chain.{chainSteps}
-
-abbrev pub faultNumber : Checked → ℕ
-faultNumber (Checked.fault n i) = n
-faultNumber (Checked.chain rs) = 0
 
 -- 7, then the first fault along the chain
 unfoldable pub refusal : ℕ → Checked → ℕ
-refusal limit c = limitFirst limit (faultNumber c)
+refusal limit c = limitFirst limit (numberOf (verdict c))
 
--- a chain on a bus: its rate, whether the chip has QPI, the highest kind that is taken, and the words of the records
+-- what is to be run: the words of all records, in which `checked` finds document 01's *chain*, the highest kind that is taken, the rate of the
+-- bus, and whether its chip has QPI
 pub record Chain : Type 0 where
   pub rate : ℕ
   pub qpi : Bool

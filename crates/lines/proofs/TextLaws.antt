@@ -1,18 +1,17 @@
--- Writing one text after another, the length of digits, and the lines of a log.
-use Prim.Native.Nat.{ℕ, zero, suc, _+_, _-_, _*_, _/_, _^_, _≤_, _<_}
+-- Writing one text after another, how many digits a number takes, and the lines of a log.
+use Prim.Native.Nat.{ℕ, zero, suc, _+_, _-_, _*_, _^_, _≤_, _<_}
 use mathlib.Core.Path.{_≡_, refl, sym, ap, ap₂, _∙_}
 use mathlib.Core.Bool.{Bool, true, false, cond}
 use mathlib.Core.List.{List, [], _∷_, _++_, append-assoc, append-nil}
 use native.Mathlib.Omega.{arith}
 use native.Mathlib.Decide.{decLt, decLe}
 use native.Mathlib.Nat.{add-assoc, pow-le-pow-right}
-use lib.ListN.{length, getD, take, drop, length-append, length-take, length-drop, drop-of-length-le}
+use lib.ListN.{length, getD, take, drop, length-append, length-drop, drop-of-length-le}
 use lib.Seq.{take-at, drop-at, drop-drop, length-take-le, take-length, take-all}
 use lib.Dec.{leb}
 use borrow.Author.Tests.{leb-true, leb-false}
 use Rattle.io.specs.Digits.{digits, Fewest}
-use Rattle.lines.specs.Text.{letterOf, entryLine, entryLines, places, number, endLine, printed, written, Wrote}
-use Rattle.access.specs.declared.progress.Progress.{Progress}
+use Rattle.lines.specs.Text.{letterOf, entryLine, entryLines, places, number, written, Wrote}
 
 -- what is written keeps what stands before and after it
 module _ (d : List ℕ) (at : ℕ) (x : List ℕ) (room : at + length x ≤ length d) where
@@ -71,10 +70,6 @@ wrote-part d s ys at h e =
       place = refl;
       room = h;
     }
-
-pub digits-long : (b k n : ℕ) → length (digits b k n) ≡ k
-digits-long b zero n = refl
-digits-long b (suc k) n = rw length-append (omega (arith, digits-long b k (n / b)))
 
 -- the fewest digits that hold a number are `places`
 module _ (n r : ℕ) (f : Fewest 10 1 n r) where
@@ -144,37 +139,3 @@ other-letter (suc (suc (suc (suc (suc (suc n)))))) a b c d e = refl
 pub numbered : (n k : ℕ) (t : List ℕ) → Fewest 10 1 n k → k ≤ 20 → take k t ≡ digits 10 k n → (32 ∷ []) ++ take k t ≡ number n
 unfolding number
 numbered n k t f h e = ap (λ (l : List ℕ). 32 ∷ l) (e ∙ ap (λ (j : ℕ). digits 10 j n) (sym (fewest-places n k f 19 h)))
-
--- how long the text can be: sixteen bytes for an entry, and 109 for the last line
-places-most : (k n : ℕ) → places k n ≤ suc k
-places-most zero n = omega arith
-places-most (suc k) n = go (leb (10 ^ suc k) n) (places-most k n)
-  where
-    go : (b : Bool) → places k n ≤ suc k → cond b (suc (suc k)) (places k n) ≤ suc (suc k)
-    go true h = omega arith
-    go false h = omega arith
-
-number-most : (n : ℕ) → length (number n) ≤ 21
-unfolding number
-number-most n = omega (arith, digits-long 10 (places 19 n) n, places-most 19 n)
-
-end-most : (e : Progress) → length (endLine e) ≤ 109
-unfolding endLine
-end-most e =
-    simp length-append
-    (omega (arith, number-most (e .number), number-most (e .entries), number-most (e .taken), number-most (e .tally .polls), number-most (e .tally .longest)))
-
-lines-most : (ws : List ℕ) → length (entryLines ws) ≤ 8 * length ws
-lines-most [] = omega arith
-lines-most (w ∷ []) = omega arith
-lines-most (w ∷ v ∷ ws) = omega (arith, length-append (entryLine w v) (entryLines ws), line-long w v refl, lines-most ws)
-
-pub printed-most : (log : List ℕ) (e : Progress) → length (printed log e) ≤ 16 * e .entries + 109
-printed-most log e =
-    omega (
-      arith,
-      length-append (entryLines (take (2 * e .entries) log)) (endLine e),
-      lines-most (take (2 * e .entries) log),
-      length-take (2 * e .entries) log,
-      end-most e,
-    )

@@ -1,17 +1,18 @@
 -- Which numbers the check never gives.
-use Prim.Native.Nat.{ℕ, zero, suc, _+_, _≤_, _/_, _%_}
+use Prim.Native.Nat.{ℕ, suc, _+_, _≤_, _/_}
 use mathlib.Core.Path.{_≡_, refl, sym, _∙_}
 use mathlib.Core.Logic.{_⊎_, inl, inr}
 use mathlib.Core.Bool.{Bool, true, false, cond, _&&_, _||_}
 use mathlib.Core.List.{List, [], _∷_, map}
 use native.Mathlib.Omega.{arith}
 use lib.ListN.{length}
-use lib.Dec.{ltb, eqb}
+use lib.Dec.{ltb}
 use borrow.Author.Tests.{ltb-false, le-ltb}
 use Rattle.records.specs.Kinds.{kindOf}
-use Rattle.records.specs.Check.{any, outsideOf, tooLong, extentIn, extentsFault, windowsFault, outOfRange, known, nextFits, nextOf, field, recordFault, Checked, fault, ahead, step, recordsIn, along, checked}
+use Rattle.records.specs.Check.{any, outsideOf, tooLong, extentIn, extentsFault, windowsFault, outOfRange, known, nextFits, nextOf, field, recordFault, Checked, ahead, checked}
 use Rattle.records.specs.Laws.{EachFault, Never6, FaultNumbers}
 use Rattle.records.specs.declared.Extent.{Extent}
+use Rattle.records.proofs.Holds.{checked-holds}
 
 short : (p : Bool) (n : ℕ) → n ≤ 0xFFFFFF → (p && ltb 0xFFFFFF n) ≡ false
 short true n h = le-ltb _ _ h
@@ -49,36 +50,15 @@ module _ (memory : ℕ) (small : memory ≤ 0xFFFFFF) where
       go true false false p = omega arith
       go false b c p = omega arith
 
--- What every fault's number is, along a chain: what it is of every record.
-module _ (P : ℕ → Type 0) (highest memory count : ℕ) (each : (own : ℕ) (r : List ℕ) (n : ℕ) → recordFault highest memory count own r ≡ suc n → P (suc n)) where
+-- What every fault's number is: what it is of every record, and 8.
+module _ (P : ℕ → Type 0) where
   ahead-each : (r : List ℕ) (c : Checked) → EachFault P c → EachFault P (ahead r c)
   ahead-each r (Checked.fault n i) h = h
   ahead-each r (Checked.chain rs) h = tt
 
-  step-each : (n own : ℕ) (r : List ℕ) (rest : Checked) → recordFault highest memory count own r ≡ n → EachFault P rest → EachFault P (step n own r rest)
-  step-each zero own r rest e k = ahead-each r rest k
-  step-each (suc n) own r rest e k = each own r n e
-
-  pub along-each : (rs : List (List ℕ)) (own due : ℕ) → EachFault P (along highest memory count rs own due)
-  unfolding along
-  along-each [] own due = tt
-  along-each (r ∷ rs) own due =
-      either (eqb own due) _ _
-      (step-each (recordFault highest memory count own r) own r _ refl (either (eqb (nextOf r) 0) _ _ tt (along-each rs (suc own) (nextOf r))))
-      (along-each rs (suc own) due)
-    where
-      either : (b : Bool) (c d : Checked) → EachFault P c → EachFault P d → EachFault P (cond b c d)
-      either true c d h k = h
-      either false c d h k = k
-
-checked-each : (P : ℕ → Type 0) (highest memory : ℕ) (ws : List ℕ) → P 8
-    → ((own : ℕ) (r : List ℕ) (n : ℕ) → recordFault highest memory (length ws / 8) own r ≡ suc n → P (suc n)) → EachFault P (checked highest memory ws)
-unfolding checked
-checked-each P highest memory ws eight each = by (eqb (length ws % 8) 0)
-  where
-    by : (b : Bool) → EachFault P (cond b (along highest memory (length ws / 8) (recordsIn (length ws / 8) ws) 1 1) (fault 8 0))
-    by true = along-each P highest memory (length ws / 8) each (recordsIn (length ws / 8) ws) 1 1
-    by false = eight
+  checked-each : (highest memory : ℕ) (ws : List ℕ) → P 8
+      → ((own : ℕ) (r : List ℕ) (n : ℕ) → recordFault highest memory (length ws / 8) own r ≡ suc n → P (suc n)) → EachFault P (checked highest memory ws)
+  checked-each highest memory ws eight each = checked-holds (EachFault P) highest memory ws tt eight each (λ own r c e h. ahead-each r c h)
 
 pub never-6 : Never6
 never-6 memory small highest ws =

@@ -12,7 +12,7 @@ abbrev pub any : {A : Type 0} → (A → Bool) → List A → Bool
 any f [] = false
 any f (x ∷ xs) = f x || any f xs
 
--- record i of the words, counted from 1
+-- document 01's *record* i, counted from 1: eight words, kind, f1 to f6 and next
 unfoldable pub recordAt : List ℕ → ℕ → List ℕ
 recordAt ws i = take 8 (drop (8 * (i - 1)) ws)
 
@@ -58,10 +58,19 @@ unfoldable pub recordFault : ℕ → ℕ → ℕ → ℕ → List ℕ → ℕ
 recordFault highest memory count own r =
     cond (known highest (field r 0)) (cond (outOfRange r) 8 (cond (nextFits own count (nextOf r)) (windowsFault memory r) 8)) 8
 
--- the first fault with its number and its record (0: the slice itself), or the records on the chain, in order
+-- the first fault with its number and its record (0: the slice itself), or document 01's *chain*: its records, in order
 pub data Checked : Type 0 where
   fault : ℕ → ℕ → Checked
   chain : List (List ℕ) → Checked
+
+-- what the code answers, and its number: 0, or that of the fault
+abbrev pub verdict : Checked → Verdict
+verdict (fault n i) = Verdict.Fault n i
+verdict (chain rs) = Verdict.Fine
+
+abbrev pub numberOf : Verdict → ℕ
+numberOf Verdict.Fine = 0
+numberOf (Verdict.Fault n i) = n
 
 abbrev pub ahead : List ℕ → Checked → Checked
 ahead r (fault n i) = fault n i
@@ -91,11 +100,6 @@ unfoldable pub checked : ℕ → ℕ → List ℕ → Checked
 checked highest memory ws =
     let count = length ws / 8 in
     cond (eqb (length ws % 8) 0) (along highest memory count (recordsIn count ws) 1 1) (fault 8 0)
-
--- what the code answers
-abbrev pub verdict : Checked → Verdict
-verdict (fault n i) = Verdict.Fault n i
-verdict (chain rs) = Verdict.Fine
 
 -- the records that are run
 abbrev pub chainOf : Checked → List (List ℕ)

@@ -17,12 +17,12 @@ use Rattle.chain.specs.Transaction as transactions
 use Rattle.lines.specs.Text.{entryLine, number, endLine}
 use Rattle.sheet.specs.Sheet.{parse}
 use Rattle.sheet_run.specs.Run.{sheetOutcome, sheetState}
-use Rattle.sheet_run.specs.Print.{marked, printedSheet}
+use Rattle.sheet_run.specs.Print.{endState, printedSheet}
 use Rattle.settled.specs.Settled.{Settled}
 
 pub all-settled : Settled
 unfolding getField setField headOf valueOf answerOf answersOf receive words stored plus pollTally tallyEvent tallyOf then change waitFor entered answered poll
     run roomOf ran onward advance called factorAt rank lowest chosen resetFifos programTransfer startTransfer beginTransfer moved movedAll paced txPhase
     calls.stepsOf calls.lengthsOf calls.tooLong calls.refusal calls.outcome outOfRange extentsFault windowsFault recordFault recordsIn along checked window
-    writeWindow recordSteps chainSteps transactions.refusal transactions.outcome entryLine number endLine parse sheetOutcome sheetState marked printedSheet
+    writeWindow recordSteps chainSteps transactions.refusal transactions.outcome entryLine number endLine parse sheetOutcome sheetState endState printedSheet
 all-settled = refl

@@ -146,9 +146,9 @@ module _ (s : Sheet) (ok : WellFormed s) where
         qpi = omega (arith, qpi-is);
       }
 
-  pub parse-encode : parse (encode s) ≡ sheet s
-  unfolding parse
-  parse-encode = ap₂ judged (is-accepted (encode s) encode-accepted) sheetOf-encode
+pub read-back : ReadBack
+unfolding parse
+read-back s ok = ap₂ judged (is-accepted (encode s) (encode-accepted s ok)) (sheetOf-encode s ok)
 
 -- what an accepted parse says
 pub parsed : (bs : List ℕ) (s : Sheet) → parse bs ≡ sheet s → (accepted bs ≡ true) × (sheetOf bs ≡ s)
@@ -159,8 +159,8 @@ parsed bs s e = go (accepted bs) refl e
     go true q p = (q, cc)
     go false q p = let z : _≡_ {A = ℕ} 0 1 = cc in absurd (omega arith)
 
-pub encode-parse : (bs : List ℕ) (s : Sheet) → Below 256 bs → parse bs ≡ sheet s → encode s ≡ bs
-encode-parse bs s below e =
+pub spelled-back : SpelledBack
+spelled-back bs s below e =
     let p = parsed bs s e in
     ap encode (sym (p .1)) ∙ encode-sheetOf bs below (accepted-is bs (p .0))
 
@@ -182,12 +182,6 @@ module _ (l : ℕ) (xs bs : List ℕ) (below : Below 256 bs) (ok : Accepted bs) 
       let e : 8 * recordCount bs / 8 ≡ recordCount bs = omega arith in
       rw (header-kept, body-kept) (simp (words-length, length-append, spell-append, append-assoc, e))
 
-pub read-back : ReadBack
-read-back = parse-encode
-
-pub spelled-back : SpelledBack
-spelled-back = encode-parse
-
 pub continues : Continues
 continues l xs bs s below e hl hx most =
     let p = parsed bs s e in
@@ -204,5 +198,5 @@ continues l xs bs s below e hl hx most =
       fits = simp (words-length, length-drop, length-append) (omega arith);
     } in
     ap parse (continued-bytes l xs bs below ok)
-    ∙ parse-encode (continued l xs (sheetOf bs)) g
+    ∙ read-back (continued l xs (sheetOf bs)) g
     ∙ ap (λ (t : Sheet). sheet (continued l xs t)) (p .1)

@@ -14,8 +14,8 @@ ReadBack = (s : Sheet) → WellFormed s → parse (encode s) ≡ sheet s
 abbrev pub SpelledBack : Type 0
 SpelledBack = (bs : List ℕ) (s : Sheet) → Below 256 bs → parse bs ≡ sheet s → encode s ≡ bs
 
--- demand 3 on bytes: with any limit word, and words inserted after the answers and counted, within 65,536 bytes, the bytes are read as the
--- same sheet with that limit and those answers after its own
+-- with any limit word, and words inserted after the answers and counted, within 65,536 bytes, the bytes are read as the same sheet with
+-- that limit and those answers after its own
 abbrev pub Continues : Type 0
 Continues =
     (l : ℕ) (xs bs : List ℕ) (s : Sheet)

@@ -24,3 +24,8 @@ answered false h = Opened.Refused
 
 unfoldable pub opened : List ℕ → Opened
 opened bs = answered (accepted bs) (headerOf bs)
+
+-- the number of that: 13 for a refusal
+abbrev pub numberOf : Opened → ℕ
+numberOf (Opened.Accepted h) = 0
+numberOf Opened.Refused = 13

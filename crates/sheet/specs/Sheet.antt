@@ -8,6 +8,7 @@ use lib.ListN.{length, take, drop}
 use lib.Dec.{leb}
 use Rattle.sheet.specs.Words.{wordAt, words, bytesOf, spell, Below}
 
+-- document 01's *sheet*, once read; `records` are the words of its records
 pub record Sheet : Type 0 where
   pub limit : ℕ
   pub rate : ℕ

@@ -15,7 +15,7 @@ use Rattle.access.specs.declared.progress.Progress.{Progress}
 use Rattle.lines.specs.Text.{printed, Wrote}
 use Rattle.sheet_run.specs.declared.print.Printed.{Printed}
 use Rattle.sheet_run.specs.Run.{sheetOutcome, sheetState, RunsSheet}
-use Rattle.sheet_run.specs.Print.{progressIn, marked, printedSheet, Prints}
+use Rattle.sheet_run.specs.Print.{progressIn, endState, printedSheet, Prints}
 
 called-fits : (n : ℕ) (s : Steps) (limit : ℕ) (answers log m : List ℕ) → called n s limit answers log m .entries * 2 ≤ length log
 unfolding called
@@ -42,7 +42,7 @@ module _ (bs : List ℕ) {p : Progress} {log' bs' : List ℕ} (d : RunsSheet bs 
       omega (arith, e, entries-fit bs (replicate 8192 0), length-replicate {A = ℕ} 8192 0)
 
   pub prints : {text : List ℕ} {n : ℕ} → Wrote (replicate 65664 0) 0 text n (printed log' p) → Prints bs (record { text = text; length = n }) bs'
-  unfolding printedSheet marked
+  unfolding printedSheet endState
   prints {text} w =
       let x = printed log' p in
       let e : x ≡ printedSheet bs = ap (λ st. printed (st .log) (progressIn st)) (d .state) in

@@ -8,11 +8,11 @@ use lib.ListN.{length, take, drop, length-drop, take-append-drop}
 use Rattle.model.specs.State.{begun, withNumber, withMemory}
 use Rattle.model.specs.Ends.{Met}
 use Rattle.model.proofs.Called.{limit-never, called-never}
-use Rattle.records.specs.Check.{Checked, checked, chainOf}
+use Rattle.records.specs.Check.{Checked, checked, verdict, numberOf, chainOf}
 use Rattle.records.specs.Laws.{EachFault}
 use Rattle.records.proofs.Lengths.{never-6}
 use Rattle.chain.specs.Chain.{chainSteps}
-use Rattle.chain.specs.Transaction.{faultNumber, refusal, outcome}
+use Rattle.chain.specs.Transaction.{refusal, outcome}
 use Rattle.chain.proofs.Entry.{chain-refused}
 use Rattle.sheet.specs.Sheet.{Sheet, Parsed, refused, sheet, parse, recordCount, answerCount, memoryFrom}
 use Rattle.sheet.proofs.SheetLaws.{accepted-is, parsed}
@@ -43,7 +43,7 @@ not-met : Met 6 → ⊥
 not-met h =
     ⊎-elim (λ e. omega (arith, e)) (⊎-elim (λ e. omega (arith, e)) (⊎-elim (λ e. omega (arith, e)) (⊎-elim (λ e. omega (arith, e)) (λ e. omega (arith, e))))) h
 
-fault-never : (c : Checked) → EachFault (λ n. n ≡ 6 → ⊥) c → faultNumber c ≡ 6 → ⊥
+fault-never : (c : Checked) → EachFault (λ n. n ≡ 6 → ⊥) c → numberOf (verdict c) ≡ 6 → ⊥
 fault-never (Checked.fault n i) f e = f e
 fault-never (Checked.chain rs) f e = omega (arith, e)
 
@@ -64,4 +64,4 @@ sheet-never-6 bs log = by (parse bs) refl
     by (sheet s) e =
         let found = checked 9 (length (s .memory)) (s .records) in
         called-never 6 (refusal (s .limit) found) (chainSteps (s .rate) (chainIn s .qpi) (chainOf found)) (s .limit) (s .answers) log (s .memory) not-met
-        (limit-never (s .limit) (faultNumber found) 6 (omega arith) (fault-never found (never-6 (length (s .memory)) (memory-short bs s e) 9 (s .records))))
+        (limit-never (s .limit) (numberOf (verdict found)) 6 (omega arith) (fault-never found (never-6 (length (s .memory)) (memory-short bs s e) 9 (s .records))))

@@ -16,7 +16,7 @@ use Rattle.sheet.specs.declared.Header.{Header}
 use Rattle.sheet.specs.declared.Opened.{Opened}
 use Rattle.sheet.specs.Words.{wordAt, words}
 use Rattle.sheet.specs.Sheet.{sheet, parse, sheetOf, judged, recordCount, answerCount, memoryFrom, answersFrom}
-use Rattle.sheet.specs.Open.{headerOf, opened}
+use Rattle.sheet.specs.Open.{headerOf, opened, numberOf}
 use Rattle.sheet.proofs.WordLaws.{words-length}
 use Rattle.sheet.proofs.SheetLaws.{Accepted, is-accepted}
 use Rattle.sheet.proofs.OpenLaws.{opened-is, refused-is}
@@ -71,7 +71,7 @@ module _ (n a : ℕ) (bs : List ℕ) {ws : List ℕ} (e : ws ≡ words (n + a) (
       rw (k, b) (take-all a _ (omega (arith, l)))
 
 -- 13
-pub sheet-refused : (bs log : List ℕ) {p q : Progress} → opened bs ≡ Opened.Refused → p ≡ begun → q ≡ withNumber 13 p → RunsSheet bs log q log bs
+pub sheet-refused : (bs log : List ℕ) {p q : Progress} → opened bs ≡ Opened.Refused → p ≡ begun → q ≡ withNumber (numberOf Opened.Refused) p → RunsSheet bs log q log bs
 unfolding sheetState sheetOutcome
 sheet-refused bs log e b f = record { state = rw (f, b, refused-is bs e) refl }
 

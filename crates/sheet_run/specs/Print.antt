@@ -13,15 +13,15 @@ use Rattle.sheet_run.specs.Run.{sheetState}
 abbrev pub progressIn : State → Progress
 progressIn st = record { number = st .number; entries = st .entries; taken = st .taken; tally = record { polls = st .tally .polls; longest = st .tally .longest } }
 
--- the state after the run, from an empty log
-unfoldable pub marked : List ℕ → State
-marked bs = sheetState bs (replicate 8192 0)
+-- the state in which the run ends, from a log of 4,096 entries of zeros
+unfoldable pub endState : List ℕ → State
+endState bs = sheetState bs (replicate 8192 0)
 
 unfoldable pub printedSheet : List ℕ → List ℕ
-printedSheet bs = printed (marked bs .log) (progressIn (marked bs))
+printedSheet bs = printed (endState bs .log) (progressIn (endState bs))
 
 -- the text, with zeros behind it, and the bytes afterwards
 pub record Prints (bs : List ℕ) (r : Printed) (bs' : List ℕ) : Type 0 where
   pub text : r .text ≡ printedSheet bs ++ drop (length (printedSheet bs)) (replicate 65664 0)
   pub count : r .length ≡ length (printedSheet bs)
-  pub bytes : bs' ≡ marked bs .memory
+  pub bytes : bs' ≡ endState bs .memory

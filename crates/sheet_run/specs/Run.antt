@@ -10,7 +10,7 @@ use Rattle.access.specs.Of.{stateOf}
 use Rattle.chain.specs.Transaction.{Chain, outcome}
 use Rattle.sheet.specs.declared.Header.{Header}
 use Rattle.sheet.specs.declared.Opened.{Opened}
-use Rattle.sheet.specs.Open.{opened}
+use Rattle.sheet.specs.Open.{opened, numberOf}
 use Rattle.sheet.specs.Sheet.{Sheet, Parsed, refused, sheet, parse}
 
 abbrev pub chainIn : Sheet → Chain
@@ -23,9 +23,9 @@ pub record Heads (bs : List ℕ) (h : Header) : Type 0 where
   pub most : length bs ≤ 65536
   pub memory : h .memory ≡ 20 + 32 * h .records + 4 * h .answers
 
--- 13 precedes the rest, and has no memory
+-- 13, which precedes the rest and has no memory, or the chain's outcome
 unfoldable pub sheetOutcome : Parsed → List ℕ → State
-sheetOutcome refused log = withNumber 13 (begun log [])
+sheetOutcome refused log = withNumber (numberOf Opened.Refused) (begun log [])
 sheetOutcome (sheet s) log = outcome (chainIn s) (s .limit) (s .answers) log (s .memory)
 
 -- the lent bytes with another memory behind header, records and answers; refused ones as they were

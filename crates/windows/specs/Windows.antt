@@ -8,7 +8,8 @@ use Rattle.model.specs.Steps.Steps.{look}
 use Rattle.clock.specs.Dummies.{dummies}
 use Rattle.qspi.specs.Phases.{txPhase, rxPhase}
 use Rattle.transfer.specs.Transfer.{transferSteps}
-use Rattle.quad.specs.Quad.{framed, quadSteps}
+-- passed on, so that a chain of quad records can be computed
+unfoldable pub use Rattle.quad.specs.Quad.{framed, quadMode, standardMode, quadStart, quadSteps}
 
 -- the part of the memory that a start and a length name
 unfoldable pub window : ℕ → ℕ → List ℕ → List ℕ
