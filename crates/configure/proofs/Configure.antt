@@ -1,13 +1,10 @@
 -- What the code's choices come to.
 use mathlib.Core.Path.{_≡_, refl, sym, ap, _∙_}
 use mathlib.Core.Bool.{Bool, true, false, cond}
-use mathlib.Core.List.{List}
 use Prim.Native.Nat.{ℕ, _+_, _<_, min}
 use native.Mathlib.Omega.{arith}
 use Rattle.model.specs.Field.{setField}
 use Rattle.model.specs.Steps.{Steps, then, change}
-use Rattle.model.specs.Steps.End.{done}
-use Rattle.model.specs.Steps.Steps.{end}
 use Rattle.config.specs.declared.spi.Mode.{Mode}
 use Rattle.config.specs.declared.config.CsConfig.{CsConfig}
 use Rattle.config.specs.declared.config.CsConfig.the-variants.{None, Some}
@@ -15,17 +12,11 @@ use Rattle.config.specs.declared.config.WorkMode.{WorkMode}
 use Rattle.config.specs.declared.config.WorkMode.the-variants.{Standard, ThreeWire, Dual, DualIO, Quad, QuadIO, Qpi}
 use Rattle.clock.specs.declared.DividerSelect.{DividerSelect}
 use Rattle.clock.specs.declared.DividerSelect.the-variants.{Cdr1, Cdr2}
-use Rattle.access.specs.declared.progress.Progress.{Progress}
-use Rattle.access.specs.Does.{Sound, Works}
-use Rattle.access.proofs.Sequence.{nothing-done}
 use Rattle.setups.specs.declared.transfers.Transfer as transfer
 use Rattle.changes.specs.declared.change.Change as of
 use Rattle.changes.specs.Of.{changeOf}
-use Rattle.configure.specs.Steps.{clockDivider, transferFormat, busMode, workMode}
+use Rattle.configure.specs.Steps.{clockDivider, transferFormat, busMode, configureWorkMode}
 use Rattle.configure.specs.Of.{dividerIn, csCtrlMode, busModeIn, lines, inBytes}
-
-pub nothing-works : {answers : List ℕ} {p : Progress} {log : List ℕ} → Sound p → Works (end done) answers p log p log
-nothing-works few = record { sound = few; does = λ limit. nothing-done few }
 
 pub divides : (d : DividerSelect) → changeOf (of.the-variants.Controller (dividerIn d)) ≡ clockDivider d
 unfolding clockDivider
@@ -46,8 +37,8 @@ module _ (mode : WorkMode) (bits : Bool) where
   steps : Bool → Steps
   steps b = cond b (then first (change 0x008 (setField 25 1 1))) first
 
-two-ways : (mode : WorkMode) (bits : Bool) → workMode mode bits ≡ steps mode bits (inBytes mode bits)
-unfolding workMode busMode steps
+two-ways : (mode : WorkMode) (bits : Bool) → configureWorkMode mode bits ≡ steps mode bits (inBytes mode bits)
+unfolding configureWorkMode busMode steps
 two-ways Standard true = refl
 two-ways Standard false = refl
 two-ways ThreeWire true = refl
@@ -59,11 +50,11 @@ two-ways QuadIO bits = refl
 two-ways Qpi bits = refl
 
 module _ (mode : WorkMode) (bits : Bool) {b : Bool} (e : b ≡ inBytes mode bits) where
-  pub in-bytes : b ≡ true → workMode mode bits ≡ then (first mode bits) (change 0x008 (setField 25 1 1))
+  pub in-bytes : b ≡ true → configureWorkMode mode bits ≡ then (first mode bits) (change 0x008 (setField 25 1 1))
   unfolding steps
   in-bytes t = two-ways mode bits ∙ ap (steps mode bits) (sym e ∙ t)
 
-  pub not-in-bytes : b ≡ false → workMode mode bits ≡ first mode bits
+  pub not-in-bytes : b ≡ false → configureWorkMode mode bits ≡ first mode bits
   unfolding steps
   not-in-bytes t = two-ways mode bits ∙ ap (steps mode bits) (sym e ∙ t)
 
