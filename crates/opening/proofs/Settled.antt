@@ -42,4 +42,4 @@ pub hypotheses-met : HypothesesMet
 unfolding setField headOf valueOf answerOf answersOf words stored plus tallyEvent tallyOf then change entered answered run roomOf ran onward advance called
     factorAt rank lowest chosen enableModuleClock clockDivider controllerClock controllerOn chipSelect transferFormat transferConfig busMode configureWorkMode registerSteps
     fifoSteps openingSteps releaseSteps refusal stepsOf opens releases
-hypotheses-met = record { opened = inl refl; released = inl refl; refused = λ h. omega (arith, h) }
+hypotheses-met = record { opened = inl refl; released = inl refl; refused = λ h. omega (arith, h); refused-by = refl }
