@@ -1,10 +1,11 @@
 -- What the code's choices come to.
-use mathlib.Core.Path.{_≡_, refl, sym, ap, _∙_}
+use mathlib.Core.Path.{_≡_, refl, sym, ap, fun-ext, _∙_}
 use mathlib.Core.Bool.{Bool, true, false, cond}
 use Prim.Native.Nat.{ℕ, _+_, _<_, min}
 use native.Mathlib.Omega.{arith}
 use Rattle.model.specs.Field.{setField}
 use Rattle.model.specs.Steps.{Steps, then, change}
+use Rattle.registers.specs.Setting.{phaseBits, polarityBits}
 use Rattle.config.specs.declared.spi.Mode.{Mode}
 use Rattle.config.specs.declared.config.CsConfig.{CsConfig}
 use Rattle.config.specs.declared.config.CsConfig.the-variants.{None, Some}
@@ -16,6 +17,7 @@ use Rattle.setups.specs.declared.transfers.Transfer as transfer
 use Rattle.changes.specs.declared.change.Change as of
 use Rattle.changes.specs.Of.{changeOf}
 use Rattle.configure.specs.Steps.{clockDivider, transferFormat, busMode, configureWorkMode}
+use Rattle.configure.proofs.Bits.{Below, bit-0, bit-1, bit-6, after, bit-8-first}
 use Rattle.configure.specs.Of.{dividerIn, csCtrlMode, busModeIn, lines, inBytes}
 
 pub divides : (d : DividerSelect) → changeOf (of.the-variants.Controller (dividerIn d)) ≡ clockDivider d
@@ -23,11 +25,19 @@ unfolding clockDivider
 divides (Cdr1 c) = refl
 divides (Cdr2 c) = refl
 
+-- the format's bits below bit 8, and its bits 12 and 14 with what is changed before them
+below : (mode : Mode) (b : ℕ) → Below (λ w. setField 6 1 b (setField 1 1 (polarityBits (mode .polarity)) (setField 0 1 (phaseBits (mode .phase)) w)))
+below mode b = after (bit-6 b) (after (bit-1 (polarityBits (mode .polarity))) (bit-0 (phaseBits (mode .phase))))
+
+abbrev format : Bool → (ℕ → ℕ) → Steps
+format lsb bits = change 0x008 (λ w. setField 12 1 (cond lsb 1 0) (setField 14 1 1 (bits w)))
+
+-- The code sets bit 8 first.
 pub formats : (mode : Mode) (cs : CsConfig) (lsb : Bool)
     → changeOf (of.the-variants.Transfer (transfer.the-variants.Format (mode .phase) (mode .polarity) (csCtrlMode cs) lsb)) ≡ transferFormat mode cs lsb
 unfolding transferFormat
-formats mode None lsb = refl
-formats mode (Some polarity level pin) lsb = refl
+formats mode None lsb = ap (format lsb) (fun-ext (bit-8-first (below mode 1)))
+formats mode (Some polarity level pin) lsb = ap (format lsb) (fun-ext (bit-8-first (below mode 0)))
 
 module _ (mode : WorkMode) (bits : Bool) where
   abbrev pub first : Steps

@@ -56,7 +56,7 @@ transferFormat mode cs lsb =
     (λ w.
     setField 12 1 (cond lsb 1 0)
     (setField 14 1 1
-    (setField 6 1 (bit6 cs) (setField 1 1 (polarityBits (mode .polarity)) (setField 0 1 (phaseBits (mode .phase)) (setField 8 1 1 w))))))
+    (setField 8 1 1 (setField 6 1 (bit6 cs) (setField 1 1 (polarityBits (mode .polarity)) (setField 0 1 (phaseBits (mode .phase)) w))))))
 
 -- 008; 008 again; 008 bit 13 set exactly if the clock is slow, bit 11 clear
 unfoldable pub transferConfig : Mode → CsConfig → Bool → Bool → Steps
