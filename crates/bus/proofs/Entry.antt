@@ -10,7 +10,7 @@ use Rattle.model.proofs.Called.{called-refused, called-runs}
 use Rattle.access.specs.declared.progress.Progress.{Progress}
 use Rattle.access.specs.Of.{stateOf, begun, withNumber}
 use Rattle.access.specs.Does.{Sound, Does, Runs}
-use Rattle.access.proofs.Sequence.{does-runs}
+use Rattle.access.proofs.Sequence.{begun-sound, does-runs}
 use Rattle.bus.specs.Calls.{Call, stepsOf, lengthsOf, tooLong, refusal, outcome}
 use Rattle.bus.specs.Does.{Refuses, Called, CalledOn}
 
@@ -32,7 +32,7 @@ accepted {limit} {first} {second} r z = by (eqb limit 0) (ltb 0xFFFFFF first) (l
 
 -- What a call's first step asks for.
 pub begins : {limit first second n : ℕ} {p : Progress} → Refuses limit first second n → n ≡ 0 → p ≡ begun → Sound p × (0 < limit)
-begins r z b = (rw b (omega arith), accepted r z .0)
+begins r z b = (begun-sound b, accepted r z .0)
 
 module _ (call : Call) {limit first second n : ℕ} (answers log : List ℕ) (r : Refuses limit first second n)
     (same : refusal limit (first ∷ second ∷ []) ≡ refusal limit (lengthsOf call)) where
@@ -40,15 +40,15 @@ module _ (call : Call) {limit first second n : ℕ} (answers log : List ℕ) (r 
   is-refusal = sym (r .is ∙ same)
 
   module _ {p q : Progress} (i : n ≡ 0 → ⊥) (b : p ≡ begun) (e : q ≡ withNumber n p) where
-    call-refused : (m : List ℕ) → stateOf q log m ≡ outcome call limit answers log m
+    refused-outcome : (m : List ℕ) → stateOf q log m ≡ outcome call limit answers log m
     unfolding outcome
-    call-refused m = rw (e, b, is-refusal) (sym (called-refused (stepsOf call) limit answers log m i))
+    refused-outcome m = rw (e, b, is-refusal) (sym (called-refused (stepsOf call) limit answers log m i))
 
     pub refused-called : Called call limit answers log q log
-    refused-called = record { state = call-refused }
+    refused-called = record { state = refused-outcome }
 
     pub refused-called-on : {m : List ℕ} → CalledOn call limit answers log m q log m
-    refused-called-on {m} = record { state = call-refused m }
+    refused-called-on {m} = record { state = refused-outcome m }
 
   module _ {p q : Progress} {log' : List ℕ} (z : n ≡ 0) (b : p ≡ begun) where
     pub runs-called-on : {m m' : List ℕ} → Runs (stepsOf call) limit answers p log m q log' m' → CalledOn call limit answers log m q log' m'

@@ -1,6 +1,5 @@
 -- The settled instances, computed.
 use mathlib.Core.Path.{refl}
-use mathlib.Core.Logic.{inl, inr}
 use Rattle.model.specs.Field.{getField, setField}
 use Rattle.model.specs.Event.{headOf, valueOf, answerOf, answersOf, receive, words, stored}
 use Rattle.model.specs.Tally.{plus, pollTally, tallyEvent, tallyOf}
@@ -47,4 +46,12 @@ settled =
 pub hypotheses-met : HypothesesMet
 unfolding getField plus pollTally tallyEvent tallyOf then waitFor entered answered poll run roomOf ran onward advance called stepsOf lengthsOf tooLong refusal
     outcome qpiMode modeChanges workMode
-hypotheses-met = record { flushed = inl refl; unsupported = inr refl }
+hypotheses-met =
+    record {
+      flushed = refl;
+      longest = refl;
+      flushed-again = refl;
+      unsupported = refl;
+      too-long = refl;
+      limit-0 = refl;
+    }

@@ -1,4 +1,5 @@
 pub mod Calls
 pub mod Does
+pub mod Refused
 pub mod Limits
 pub mod Settled

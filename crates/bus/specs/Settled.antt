@@ -4,7 +4,7 @@ use mathlib.Core.Bool.{true, false}
 use mathlib.Core.List.{List, [], _∷_, _++_}
 use Prim.Native.Nat.{ℕ, _*_}
 use lib.ListN.{replicate}
-use Rattle.model.specs.Limit.{Ended}
+use Rattle.model.specs.State.{State}
 use Rattle.config.specs.declared.config.WorkMode.the-variants.{Qpi}
 use Rattle.bus.specs.Calls.{Call, outcome}
 use Rattle.bus.specs.Calls.Call.{write, read, transferInPlace, flush, setWorkMode, readQuad}
@@ -58,7 +58,18 @@ pub record Settled : Type 0 where
   -- without a command, dummies and data there are the two modes
   pub quad-empty : endOf (readQuad 0 [] 0 0 0) 1 10 (0 ∷ []) ≡ 0 ∷ 10 ∷ 6 ∷ 2 ∷ 0 ∷ []
 
--- What the laws ask for can be had: a flush that ends in 0 after unready polls, a mode that ends in 2.
+-- a flush with two unready polls before a ready one
+abbrev pub flushAt : ℕ → State
+flushAt limit = outcome flush limit (0x80000000 ∷ 0x80000000 ∷ 0 ∷ []) (replicate 6 7) []
+
+-- What the laws ask for can be had.
 pub record HypothesesMet : Type 0 where
-  pub flushed : Ended (outcome flush 3 (0x80000000 ∷ 0x80000000 ∷ 0 ∷ []) (replicate 6 7) [] .number)
-  pub unsupported : Ended (outcome (setWorkMode false Qpi) 3 (0x80000000 ∷ 0 ∷ []) (replicate 6 7) [] .number)
+  -- a flush that ends in 0 after two unready polls, and in 1 at limit 2, which is not above its longest
+  pub flushed : flushAt 3 .number ≡ 0
+  pub longest : flushAt 3 .tally .longest ≡ 2
+  pub flushed-again : flushAt 2 .number ≡ 1
+  -- a mode that ends in 2
+  pub unsupported : outcome (setWorkMode false Qpi) 3 (0x80000000 ∷ 0 ∷ []) (replicate 6 7) [] .number ≡ 2
+  -- calls that end in 6 and in 7
+  pub too-long : outcome (read 0x1000000) 1 [] [] [] .number ≡ 6
+  pub limit-0 : outcome flush 0 [] [] [] .number ≡ 7

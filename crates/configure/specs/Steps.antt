@@ -3,10 +3,9 @@ use mathlib.Core.Bool.{Bool, true, false, cond}
 use Prim.Native.Nat.{ℕ, _+_}
 use lib.Dec.{leb}
 use Rattle.model.specs.Field.{setField}
-use Rattle.model.specs.Event.Act.{delay}
-use Rattle.model.specs.Steps.{Steps, then, change}
+use Rattle.model.specs.Steps.{Steps, then, change, pause}
 use Rattle.model.specs.Steps.End.{done}
-use Rattle.model.specs.Steps.Steps.{end, act}
+use Rattle.model.specs.Steps.Steps.{end}
 use Rattle.registers.specs.Setting.{ctrlModeBits, phaseBits, polarityBits, csLevelBits, csPinBits}
 use Rattle.registers.specs.declared.setting.CtrlMode.{CtrlMode}
 use Rattle.config.specs.declared.spi.Mode.{Mode}
@@ -18,13 +17,9 @@ use Rattle.config.specs.declared.config.QspiConfig.{QspiConfig}
 use Rattle.clock.specs.declared.DividerSelect.{DividerSelect}
 use Rattle.clock.specs.declared.DividerSelect.the-variants.{Cdr1, Cdr2}
 
--- a delay in cycles
-abbrev pub pause : ℕ → Steps
-pause cycles = act (delay cycles) (end done)
-
 -- clock word (divider, both enables), reset asserted, delay 500, reset released
-unfoldable pub moduleClock : ℕ → ℕ → Steps
-moduleClock instance div =
+unfoldable pub enableModuleClock : ℕ → ℕ → Steps
+enableModuleClock instance div =
     let place = 0x1000 + instance in
     then (change place (λ w. setField 12 1 1 (setField 8 1 1 (setField 0 5 div w))))
     (then (change place (setField 13 1 0)) (then (pause 500) (change place (setField 13 1 1))))
@@ -61,7 +56,7 @@ transferFormat mode cs lsb =
     (λ w.
     setField 12 1 (cond lsb 1 0)
     (setField 14 1 1
-    (setField 6 1 (bit6 cs) (setField 1 1 (polarityBits (mode .polarity)) (setField 0 1 (phaseBits (mode .phase)) (setField 8 1 1 w))))))
+    (setField 8 1 1 (setField 6 1 (bit6 cs) (setField 1 1 (polarityBits (mode .polarity)) (setField 0 1 (phaseBits (mode .phase)) w))))))
 
 -- 008; 008 again; 008 bit 13 set exactly if the clock is slow, bit 11 clear
 unfoldable pub transferConfig : Mode → CsConfig → Bool → Bool → Steps
@@ -73,15 +68,15 @@ unfoldable pub busMode : Bool → Steps
 busMode bits = change 0x040 (setField 0 2 (cond bits 3 0))
 
 -- The work mode: ThreeWire without bit mode sets 008 bit 25 too; Dual, DualIO set 038 bit 28; Quad, QuadIO bit 29; Qpi bit 31.
-unfoldable pub workMode : WorkMode → Bool → Steps
-workMode Standard bits = busMode bits
-workMode ThreeWire true = busMode true
-workMode ThreeWire false = then (busMode false) (change 0x008 (setField 25 1 1))
-workMode Dual bits = change 0x038 (setField 28 1 1)
-workMode DualIO bits = change 0x038 (setField 28 1 1)
-workMode Quad bits = change 0x038 (setField 29 1 1)
-workMode QuadIO bits = change 0x038 (setField 29 1 1)
-workMode Qpi bits = change 0x038 (setField 31 1 1)
+unfoldable pub configureWorkMode : WorkMode → Bool → Steps
+configureWorkMode Standard bits = busMode bits
+configureWorkMode ThreeWire true = busMode true
+configureWorkMode ThreeWire false = then (busMode false) (change 0x008 (setField 25 1 1))
+configureWorkMode Dual bits = change 0x038 (setField 28 1 1)
+configureWorkMode DualIO bits = change 0x038 (setField 28 1 1)
+configureWorkMode Quad bits = change 0x038 (setField 29 1 1)
+configureWorkMode QuadIO bits = change 0x038 (setField 29 1 1)
+configureWorkMode Qpi bits = change 0x038 (setField 31 1 1)
 
 -- the controller's registers, at a rate and with an oscillator: the clock is slow exactly if rate ≤ oscillator
 unfoldable pub registerSteps : QspiConfig → DividerSelect → ℕ → ℕ → Steps
@@ -89,7 +84,7 @@ registerSteps config divider rate oscillator =
     then (controllerClock divider)
     (then (controllerOn (config .«ctrl_mode»))
     (then (transferConfig (config .mode) (config .«cs_config») (config .«lsb_first») (leb rate oscillator))
-    (workMode (config .«work_mode») (config .«bit_mode_en»))))
+    (configureWorkMode (config .«work_mode») (config .«bit_mode_en»))))
 
 -- 018 bits 31 and 15, both watermarks 32; delay 100; 014 becomes all ones
 unfoldable pub fifoSteps : Steps

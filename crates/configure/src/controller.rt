@@ -1,7 +1,7 @@
 // The controller's registers.
 ghost use mathlib.Core.Path.{_≡_};
 ghost use Rattle.access.specs.Does.{Sound, Works};
-ghost use Rattle.configure.specs.Steps.{controllerClock, controllerOn, chipSelect, transferConfig, workMode, registerSteps, fifoSteps};
+ghost use Rattle.configure.specs.Steps.{controllerClock, controllerOn, chipSelect, transferConfig, configureWorkMode, registerSteps, fifoSteps};
 ghost use Rattle.configure.specs.Of.{dividerIn, csCtrlMode, busModeIn, lines, inBytes};
 use access::Act;
 use access::Progress;
@@ -168,7 +168,7 @@ fn configure_work_mode(
     bit_mode_en: bool,
 ) -> Progress
     requires { ⌜ Sound progress ⌝ }
-    ensures { λ r. ⌜ Works (workMode «work_mode» «bit_mode_en») (now (answers .entry)) progress (now (log .entry)) r (now (log .exit)) ⌝ }
+    ensures { λ r. ⌜ Works (configureWorkMode «work_mode» «bit_mode_en») (now (answers .entry)) progress (now (log .entry)) r (now (log .exit)) ⌝ }
 {
     let lines = Change::Transfer(work_mode_lines(work_mode, bus_mode(bit_mode_en)));
     let lined = changes::modify(progress, log, answers, lines);

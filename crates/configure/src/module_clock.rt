@@ -2,7 +2,7 @@
 ghost use mathlib.Core.Path.{_≡_};
 ghost use Prim.Native.Nat.{_+_, _<_, min};
 ghost use Rattle.access.specs.Does.{Sound, Works};
-ghost use Rattle.configure.specs.Steps.{moduleClock};
+ghost use Rattle.configure.specs.Steps.{enableModuleClock};
 use access::Act;
 use access::Progress;
 use changes::Change;
@@ -29,7 +29,7 @@ pub fn enable_module_clock(
 ) -> Progress
     requires { ⌜ Sound progress ⌝ }
     requires { ⌜ instance < 4 ⌝ }
-    ensures { λ r. ⌜ Works (moduleClock instance «mod_div») (now (answers .entry)) progress (now (log .entry)) r (now (log .exit)) ⌝ }
+    ensures { λ r. ⌜ Works (enableModuleClock instance «mod_div») (now (answers .entry)) progress (now (log .entry)) r (now (log .exit)) ⌝ }
 {
     let place = clock_place(instance);
     let on = Change::Clock(place, ClockWord::On(mod_div));

@@ -1,18 +1,11 @@
 -- The changes of a mode.
 use mathlib.Core.Path.{_≡_, refl, sym, ap, _∙_}
 use mathlib.Core.Bool.{Bool, true, false, cond}
-use mathlib.Core.List.{List}
-use Prim.Native.Nat.{ℕ}
 use Rattle.model.specs.Field.{setField}
-use Rattle.model.specs.Steps.{Steps, End, then, change, numberOf}
-use Rattle.model.specs.Steps.Steps.{end}
-use Rattle.model.proofs.Advance.{ends, skipped}
+use Rattle.model.specs.Steps.{Steps, then, change}
 use Rattle.config.specs.Config.{isQpi}
 use Rattle.config.specs.declared.config.WorkMode.{WorkMode}
 use Rattle.config.specs.declared.config.WorkMode.the-variants.{Standard, ThreeWire, Dual, DualIO, Quad, QuadIO, Qpi}
-use Rattle.access.specs.declared.progress.Progress.{Progress}
-use Rattle.access.specs.Of.{stateOf, withNumber}
-use Rattle.access.specs.Does.{Sound, Works}
 use Rattle.changes.specs.Of.{lined}
 use Rattle.mode.specs.Mode.{lines, qpiMode, modeChanges}
 use Rattle.mode.specs.Of.{dataLines, threeWire}
@@ -44,13 +37,3 @@ module _ (qpi : Bool) (mode : WorkMode) {b : Bool} (e : b ≡ isQpi mode) where
   pub is-not : b ≡ false → modeChanges qpi mode ≡ two qpi mode
   unfolding steps
   is-not f = two-ways qpi mode ∙ ap (steps qpi mode) (sym e ∙ f)
-
--- An end by itself, with nothing done for it.
-module _ (e : End) (answers : List ℕ) (p : Progress) (log : List ℕ) (few : Sound p) where
-  pub works-end : p .number ≡ 0 → Works (end e) answers p log (withNumber (numberOf e) p) log
-  works-end z =
-      record { sound = few; does = λ limit. record { sound = few; state = λ m. sym (ends e limit answers (stateOf p log m) z) } }
-
-  pub works-not : (p .number ≡ 0 → ⊥) → Works (end e) answers p log p log
-  works-not i =
-      record { sound = few; does = λ limit. record { sound = few; state = λ m. sym (skipped (end e) limit answers (stateOf p log m) i) } }

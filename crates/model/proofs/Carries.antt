@@ -1,11 +1,11 @@
 -- What relates two outcomes, carried from where the runs stop through each of their entries.
-use mathlib.Core.Bool.{Bool, true, false, cond}
 use mathlib.Core.List.{List, [], _∷_}
 use Prim.Native.Nat.{ℕ, zero, suc}
 use Rattle.model.specs.Wait.{Cause, ready}
 use Rattle.model.specs.Event.{Event}
 use Rattle.model.specs.Event.Event.{polled}
 use Rattle.model.specs.Run.{Outcome, stop, after, entered, answered, poll}
+use Rattle.model.proofs.Every.{cond-relates}
 
 -- `R` holds of runs over the memories m and m' that have met 10 or 11, and goes past a poll that both make
 pub record Carries (R : Outcome → Outcome → Type 0) (m m' : List ℕ) : Type 0 where
@@ -28,10 +28,6 @@ module _ {R : Outcome → Outcome → Type 0} {m m' : List ℕ} (p : Carries R m
   answered-carries e e' past (suc r) [] k k' h = p .eleven r
   answered-carries e e' past (suc r) (x ∷ ws) k k' h = past x (k x r ws) (k' x r ws) (h x r ws)
 
-  cond-carries : (b : Bool) (o o' q q' : Outcome) → R o o' → R q q' → R (cond b o q) (cond b o' q')
-  cond-carries true o o' q q' h i = h
-  cond-carries false o o' q q' h i = i
-
   pub poll-carries : (c : Cause) (k k' : ℕ → ℕ → List ℕ → Outcome) (u u' : ℕ → List ℕ → Outcome)
       → ((x r : ℕ) (l : List ℕ) → R (k x r l) (k' x r l)) → ((r : ℕ) (l : List ℕ) → R (u r l) (u' r l))
       → (left n r : ℕ) (ws : List ℕ) → R (poll c k u left n r ws m) (poll c k' u' left n r ws m')
@@ -39,4 +35,4 @@ module _ {R : Outcome → Outcome → Type 0} {m m' : List ℕ} (p : Carries R m
   poll-carries c k k' u u' hk hu zero n r ws = hu r ws
   poll-carries c k k' u u' hk hu (suc left) n r ws =
       answered-carries (polled c n) (polled c n) (p .polls c n) r ws _ _
-      (λ x r' l. cond-carries (ready c x) _ _ _ _ (hk _ r' l) (poll-carries c k k' u u' hk hu left (suc n) r' l))
+      (λ x r' l. cond-relates R (ready c x) (hk _ r' l) (poll-carries c k k' u u' hk hu left (suc n) r' l))

@@ -98,16 +98,12 @@ module _ (limit : ℕ) (late : Bool) where
   unfolding tallyOf
   waited-stop n k r ws m h = record { bound = omega arith; timeout = λ f z. absurd (h f z) }
 
-  waited-after : (e : Event) (n : ℕ) (o : Outcome) → tallyEvent e .longest ≡ 0 → Waited limit n late o → Waited limit n late (after e o)
-  unfolding plus tallyOf
-  waited-after e n o z h = record { bound = omega (arith, h .bound); timeout = λ f i. omega (arith, h .timeout f i) }
-
   -- an unready poll of the wait
   waited-on : (e : Event) (n : ℕ) (o : Outcome) → tallyEvent e .longest ≡ suc n → suc n ≤ limit → Waited limit (suc n) late o → Waited limit n late (after e o)
   unfolding plus tallyOf
   waited-on e n o z q h = record { bound = omega (arith, h .bound); timeout = λ f i. omega (arith, h .timeout f i) }
 
-  -- the wait's ready poll
+  -- the wait's ready poll, and an entry outside a wait
   waited-out : (e : Event) (n : ℕ) (o : Outcome) → tallyEvent e .longest ≡ 0 → n ≤ limit → Waited limit 0 late o → Waited limit n late (after e o)
   unfolding plus tallyOf
   waited-out e n o z q h = record { bound = omega (arith, h .bound); timeout = λ f i. omega (arith, h .timeout f i) }
@@ -116,7 +112,7 @@ module _ (limit : ℕ) (late : Bool) where
       → Waited limit 0 late (entered e r ws m k)
   unfolding entered
   entered-waited e zero ws m k z h = waited-stop 0 10 0 ws m (λ f i. omega arith)
-  entered-waited e (suc r) ws m k z h = waited-after e 0 (k r) z (h r)
+  entered-waited e (suc r) ws m k z h = waited-out e 0 (k r) z (omega arith) (h r)
 
   answered-waited : (e : ℕ → Event) (n r : ℕ) (ws m : List ℕ) (k : ℕ → ℕ → List ℕ → Outcome)
       → ((x r' : ℕ) (l : List ℕ) → Waited limit n late (after (e x) (k x r' l))) → Waited limit n late (answered e r ws m k)
@@ -151,8 +147,8 @@ waited (end e) l true r ws m = waited-stop l true 0 1 r ws m (λ f. absurd (no f
 waited (end done) l false r ws m = waited-stop l false 0 0 r ws m (λ f z. omega arith)
 waited (end unsupported) l false r ws m = waited-stop l false 0 2 r ws m (λ f z. omega arith)
 waited (act a s) l b r ws m = entered-waited l b (did a) r ws m _ refl (λ r'. waited s l b r' ws m)
-waited (ask q k) l b r ws m = answered-waited l b (heard q) 0 r ws m _ (λ x r' l'. waited-after l b (heard q x) 0 _ refl (waited (k _) l b r' l' m))
-waited (get i s) l b r ws m = answered-waited l b (got i) 0 r ws m _ (λ x r' l'. waited-after l b (got i x) 0 _ refl (waited s l b r' l' _))
+waited (ask q k) l b r ws m = answered-waited l b (heard q) 0 r ws m _ (λ x r' l'. waited-out l b (heard q x) 0 _ refl (omega arith) (waited (k _) l b r' l' m))
+waited (get i s) l b r ws m = answered-waited l b (got i) 0 r ws m _ (λ x r' l'. waited-out l b (got i x) 0 _ refl (omega arith) (waited s l b r' l' _))
 waited (look k) l b r ws m = waited (k m) l b r ws m
 waited (wait c k u) l b r ws m =
     poll-waited l b c m _ _ (λ x r' l'. waited (k x) l b r' l' m) (λ r' l'. waited u l true r' l' m) l 0 r ws (omega arith)

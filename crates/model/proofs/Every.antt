@@ -13,6 +13,14 @@ use Rattle.model.specs.Steps.Steps.{end, act, ask, get, look, wait}
 use Rattle.model.specs.Run.{Outcome, stop, after, entered, answered, poll, run}
 use Rattle.model.specs.Limit.{Ended}
 
+-- What relates the first of both pairs and the second of both relates what a truth value picks of them.
+pub cond-relates : {A B : Type 0} (R : A → B → Type 0) (b : Bool) {x y : A} {x' y' : B} → R x x' → R y y' → R (cond b x y) (cond b x' y')
+cond-relates R true h i = h
+cond-relates R false h i = i
+
+pub cond-holds : {A : Type 0} (P : A → Type 0) (b : Bool) {x y : A} → P x → P y → P (cond b x y)
+cond-holds P b h i = cond-relates (λ x (u : Unit {0}). P x) b {x' = tt} {y' = tt} h i
+
 -- `P` is what holds of the room, the answers, the memory and the outcome
 module _
     (P : ℕ → List ℕ → List ℕ → Outcome → Type 0)
@@ -31,10 +39,6 @@ module _
   on-answered e (suc r) [] m k t h = eleven r m
   on-answered e (suc r) (x ∷ ws) m k t h = rw (t x) at (past (e x) r ws m (k x r ws) (h x r ws))
 
-  on-cond : (b : Bool) (r : ℕ) (ws m : List ℕ) (o o' : Outcome) → P r ws m o → P r ws m o' → P r ws m (cond b o o')
-  on-cond true r ws m o o' h h' = h
-  on-cond false r ws m o o' h h' = h'
-
   pub on-poll : (c : Cause) (m : List ℕ) (k : ℕ → ℕ → List ℕ → Outcome) (u : ℕ → List ℕ → Outcome)
       → ((x r : ℕ) (l : List ℕ) → P r l m (k x r l)) → ((r : ℕ) (l : List ℕ) → P r l m (u r l))
       → (left n r : ℕ) (ws : List ℕ) → P r ws m (poll c k u left n r ws m)
@@ -42,7 +46,7 @@ module _
   on-poll c m k u hk hu zero n r ws = hu r ws
   on-poll c m k u hk hu (suc left) n r ws =
       on-answered (polled c n) r ws m _ (λ x. refl)
-      (λ x r' l. on-cond (ready c x) r' l m _ _ (hk _ r' l) (on-poll c m k u hk hu left _ r' l))
+      (λ x r' l. cond-holds (P r' l m) (ready c x) (hk _ r' l) (on-poll c m k u hk hu left _ r' l))
 
   -- `timed` is what holds where a run ends after a timeout
   pub every : ((r : ℕ) (ws m : List ℕ) → P r ws m (stop 1 r ws m)) → (s : Steps) (limit : ℕ) (late : Bool)

@@ -16,7 +16,8 @@ use Rattle.model.specs.Steps.Steps.{end, act, ask, get, look, wait}
 use Rattle.model.specs.Run.{Outcome, stop, after, answered, poll, run}
 use Rattle.model.specs.State.{State, withNumber, standing, roomOf, ran, advance}
 use Rattle.model.specs.Limit.{Ended}
-use Rattle.model.specs.Order.{Plain, BeginsWithRead, TimeoutStands, StopsAtOnce, TriesOn}
+use Rattle.model.specs.Supported.{Supported}
+use Rattle.model.specs.Order.{BeginsWithRead, TimeoutStands, StopsAtOnce, TriesOn}
 use Rattle.model.proofs.Every.{late-never}
 use Rattle.model.proofs.Carries.{Carries, entered-carries, answered-carries, poll-carries}
 use Rattle.model.proofs.Ends.{Leaves, leaves}
@@ -114,15 +115,12 @@ renumbers n m = record { ten = λ ws. refl; eleven = λ r. refl; polls = λ c k 
 late-renumbers : (n : ℕ) (s : Steps) (limit r : ℕ) (ws m : List ℕ) → Renumbers n (run s limit true r ws m) (run s limit true r ws m)
 late-renumbers n s l r ws m = rw (ne-eqb _ 0 (λ z. late-never s l r ws m (inl z))) refl
 
-not-plain : unsupported ≡ done → ⊥
-not-plain h = let z : _≡_ {A = ℕ} 0 1 = cc in omega arith
-
 -- Another end for done, early or late.
-run-ending : (s : Steps) (e : End) (limit : ℕ) (late : Bool) (r : ℕ) (ws m : List ℕ) → Plain s
+run-ending : (s : Steps) (e : End) (limit : ℕ) (late : Bool) (r : ℕ) (ws m : List ℕ) → Supported s
     → run (then s (end e)) limit late r ws m ≡ renumbered (cond late 1 (numberOf e)) (run s limit false r ws m)
 unfolding run then
 run-ending (end done) e l b r ws m h = refl
-run-ending (end unsupported) e l b r ws m h = absurd (not-plain h)
+run-ending (end unsupported) e l b r ws m h = absurd h
 run-ending (act a s) e l b r ws m h =
     entered-carries (renumbers _ m) (did a) (did a) (renumbers-after _ _) r ws _ _ (λ r'. run-ending s e l b r' ws m h)
 run-ending (ask q k) e l b r ws m h =
@@ -131,7 +129,7 @@ run-ending (get i s) e l b r ws m h =
     answered-carries (renumbers _ m) (got i) (got i) (λ x. renumbers-after _ _) r ws _ _ (λ x r' ws'. run-ending s e l b r' ws' _ h)
 run-ending (look k) e l b r ws m h = run-ending (k m) e l b r ws m (h m)
 run-ending (wait c k u) e l b r ws m h =
-    poll-carries (renumbers _ m) c _ _ _ _ (λ x r' ws'. run-ending (k x) e l b r' ws' m (h x)) (λ r' ws'. late-renumbers _ u l r' ws' m) l 0 r ws
+    poll-carries (renumbers _ m) c _ _ _ _ (λ x r' ws'. run-ending (k x) e l b r' ws' m (h .0 x)) (λ r' ws'. late-renumbers _ u l r' ws' m) l 0 r ws
 
 -- an outcome and what runs from there, whatever its number, which stands where that is done
 abbrev closed : Runs → Outcome → Outcome
@@ -145,7 +143,7 @@ closed f o =
       memory = next .memory;
     }
 
-module _ (t : Steps) (limit : ℕ) (plain : Plain t) (reads : BeginsWithRead t) (some : 0 < limit) where
+module _ (t : Steps) (limit : ℕ) (supported : Supported t) (reads : BeginsWithRead t) (some : 0 < limit) where
   abbrev Closes : Outcome → Outcome → Type 0
   Closes o o' = o' ≡ closed (run t limit false) o
 
@@ -160,7 +158,7 @@ module _ (t : Steps) (limit : ℕ) (plain : Plain t) (reads : BeginsWithRead t) 
   run-finally : (s : Steps) (late : Bool) (r : ℕ) (ws m : List ℕ)
       → run (finally s t) limit late r ws m ≡ closed (run t limit false) (run s limit late r ws m)
   unfolding run finally
-  run-finally (end e) b r ws m = run-ending t e limit b r ws m plain
+  run-finally (end e) b r ws m = run-ending t e limit b r ws m supported
   run-finally (act a s) b r ws m = entered-carries (closes m) (did a) (did a) (closes-after _) r ws _ _ (λ r'. run-finally s b r' ws m)
   run-finally (ask q k) b r ws m =
       answered-carries (closes m) (heard q) (heard q) (λ x. closes-after _) r ws _ _ (λ x r' ws'. run-finally (k _) b r' ws' m)
@@ -184,6 +182,6 @@ module _ (t : Steps) (limit : ℕ) (plain : Plain t) (reads : BeginsWithRead t) 
 
 pub tries-on : TriesOn
 unfolding advance
-tries-on s t l plain reads some ws st z =
-    rw (starts (run (finally s t) l false) ws st z, starts (run s l false) ws st z, run-finally t l plain reads some)
-    (ran-closed t l plain reads some ws st _ (leaves s l false _ _ _))
+tries-on s t l supported reads some ws st z =
+    rw (starts (run (finally s t) l false) ws st z, starts (run s l false) ws st z, run-finally t l supported reads some)
+    (ran-closed t l supported reads some ws st _ (leaves s l false _ _ _))

@@ -1,6 +1,5 @@
 -- What the lent log and the lent memory keep.
 use mathlib.Core.Path.{_≡_, refl, _∙_}
-use mathlib.Core.Bool.{Bool, true, false, cond}
 use mathlib.Core.List.{List, [], _∷_}
 use Prim.Native.Nat.{ℕ, suc, _+_, _*_, _≤_}
 use native.Mathlib.Omega.{arith}
@@ -8,10 +7,11 @@ use lib.Dec.{eqb}
 use lib.ListN.{length, take, drop, set}
 use lib.Seq.{sets, sets-eq, take-set-le, drop-set-lt}
 use Rattle.model.specs.Event.{words, stored}
-use Rattle.model.specs.Run.{Outcome, run}
+use Rattle.model.specs.Run.{Outcome}
 use Rattle.model.specs.State.{State, roomOf, ran, onward, advance}
 use Rattle.model.specs.Ends.{Ends, LogWords, Kept, EveryAdvanceKeeps}
 use Rattle.model.proofs.Trace.{length-words, length-stored}
+use Rattle.model.proofs.Every.{cond-holds}
 use Rattle.model.proofs.Ends.{every-run-ends}
 
 pub log-words : LogWords
@@ -43,11 +43,6 @@ kept st o limit ws h =
 
 pub every-advance-keeps : EveryAdvanceKeeps
 unfolding advance onward
-every-advance-keeps s limit ws st = by (eqb (st .number) 0)
-  where
-    o : Outcome
-    o = run s limit false (roomOf st) (drop (st .taken) ws) (st .memory)
-
-    by : (b : Bool) → Kept st (cond b (ran st o) st)
-    by true = kept st o limit _ (every-run-ends s limit _ _ _)
-    by false = record { earlier = refl; past = refl; log = refl; fits = λ q. q; memory = refl }
+every-advance-keeps s limit ws st =
+    cond-holds (Kept st) (eqb (st .number) 0) (kept st _ limit _ (every-run-ends s limit _ _ _))
+    (record { earlier = refl; past = refl; log = refl; fits = λ q. q; memory = refl })

@@ -1,6 +1,6 @@
 -- How many polls steps can make: the limit for each wait on the way.
 use mathlib.Core.Path.{_≡_, refl}
-use mathlib.Core.Bool.{Bool, true, false, cond}
+use mathlib.Core.Bool.{true, false}
 use mathlib.Core.List.{List, [], _∷_}
 use Prim.Native.Nat.{ℕ, zero, suc, _+_, _*_, _≤_}
 use native.Mathlib.Omega.{arith}
@@ -15,8 +15,9 @@ use Rattle.model.specs.Steps.{Steps, then, change, waitFor}
 use Rattle.model.specs.Steps.End.{done, unsupported}
 use Rattle.model.specs.Steps.Steps.{end, act, ask, get, look, wait}
 use Rattle.model.specs.Run.{Outcome, entered, answered, poll, run}
-use Rattle.model.specs.State.{roomOf, ran, onward, advance}
+use Rattle.model.specs.State.{State, roomOf, ran, onward, advance}
 use Rattle.model.specs.Polls.{AtMost, PollBound, PollBoundCall}
+use Rattle.model.proofs.Every.{cond-holds}
 
 -- polls that an outcome holds
 abbrev pollsOf : Outcome → ℕ
@@ -36,10 +37,6 @@ module _ (b : ℕ) where
   answered-polls e (suc r) [] m k h = omega arith
   answered-polls e (suc r) (x ∷ ws) m k h = h x r ws
 
-  cond-polls : (t : Bool) (o o' : Outcome) → pollsOf o ≤ b → pollsOf o' ≤ b → pollsOf (cond t o o') ≤ b
-  cond-polls true o o' h h' = h
-  cond-polls false o o' h h' = h'
-
 poll-polls : (b : ℕ) (c : Cause) (k : ℕ → ℕ → List ℕ → Outcome) (u : ℕ → List ℕ → Outcome)
     → ((x r : ℕ) (l : List ℕ) → pollsOf (k x r l) ≤ b) → ((r : ℕ) (l : List ℕ) → pollsOf (u r l) ≤ b)
     → (left n r : ℕ) (ws m : List ℕ) → pollsOf (poll c k u left n r ws m) ≤ left + b
@@ -48,11 +45,8 @@ poll-polls b c k u hk hu zero n r ws m = omega (arith, hu r ws)
 poll-polls b c k u hk hu (suc left) n r ws m =
     answered-polls (suc left + b) (polled c n) r ws m _
     (λ x r' l.
-    omega (
-      arith,
-      cond-polls (left + b) (ready c x) (k (countOf c x) r' l) (poll c k u left (suc n) r' l m)
-          (omega (arith, hk (countOf c x) r' l)) (poll-polls b c k u hk hu left (suc n) r' l m),
-    ))
+    cond-holds (λ o. 1 + pollsOf o ≤ suc left + b) (ready c x) (omega (arith, hk (countOf c x) r' l))
+    (omega (arith, poll-polls b c k u hk hu left (suc n) r' l m)))
 
 pub poll-bound : PollBound
 unfolding run pollTally tallyEvent tallyOf
@@ -70,14 +64,9 @@ poll-bound (suc n) (wait c k u) h l b r ws m =
 
 pub poll-bound-call : PollBoundCall
 unfolding advance onward ran plus
-poll-bound-call n s h limit ws st = by (eqb (st .number) 0)
-  where
-    o : Outcome
-    o = run s limit false (roomOf st) (drop (st .taken) ws) (st .memory)
-
-    by : (b : Bool) → cond b (ran st o) st .tally .polls ≤ st .tally .polls + limit * n
-    by true = omega (arith, poll-bound n s h limit false (roomOf st) (drop (st .taken) ws) (st .memory))
-    by false = omega arith
+poll-bound-call n s h limit ws st =
+    cond-holds (λ (st' : State). st' .tally .polls ≤ st .tally .polls + limit * n) (eqb (st .number) 0)
+    (omega (arith, poll-bound n s h limit false (roomOf st) (drop (st .taken) ws) (st .memory))) (omega arith)
 
 -- More waits may be allowed.
 pub more : (n d : ℕ) (s : Steps) → AtMost n s → AtMost (n + d) s

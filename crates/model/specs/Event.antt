@@ -11,7 +11,7 @@ pub data Act : Type 0 where
   send : ℕ → Act  -- a byte to the transmit FIFO
   delay : ℕ → Act  -- cycles
 
--- an access that takes the next answer
+-- an access that takes the next answer (document 01: answer)
 pub data Ask : Type 0 where
   register : ℕ → Ask  -- the word at a place
   byte : Ask  -- a byte from the receive FIFO

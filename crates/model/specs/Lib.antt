@@ -7,9 +7,10 @@ pub mod Run
 pub mod State
 pub mod Limit
 pub mod Ends
+pub mod Called
 pub mod Positions
 pub mod Polls
+pub mod Supported
 pub mod Order
 pub mod Frame
 pub mod Settled
-pub mod Supported

@@ -5,26 +5,17 @@ use mathlib.Core.List.{List}
 use mathlib.Core.Logic.{_⊎_}
 use Prim.Native.Nat.{ℕ, _<_}
 use Rattle.model.specs.Steps.{Steps, then, finally}
-use Rattle.model.specs.Steps.End.{done}
 use Rattle.model.specs.Steps.Steps.{end, act, ask, get, look, wait}
 use Rattle.model.specs.Run.{run}
 use Rattle.model.specs.State.{State, withNumber, standing, advance}
 use Rattle.model.specs.Limit.{Ended}
+use Rattle.model.specs.Supported.{Supported}
 
 -- Steps one after the other advance one after the other, from every state.
 abbrev pub ThenAdvances : Type 0
 ThenAdvances =
     (s t : Steps) (limit : ℕ) (answers : List ℕ) (st : State)
     → advance (then s t) limit answers st ≡ advance t limit answers (advance s limit answers st)
-
--- the steps end by themselves as done only
-abbrev pub Plain : Steps → Type 0
-Plain (end e) = e ≡ done
-Plain (act a s) = Plain s
-Plain (ask q k) = (x : ℕ) → Plain (k x)
-Plain (get i s) = Plain s
-Plain (look k) = (m : List ℕ) → Plain (k m)
-Plain (wait c k u) = (n : ℕ) → Plain (k n)
 
 -- the steps begin with a read
 abbrev pub BeginsWithRead : Steps → Type 0
@@ -48,9 +39,10 @@ StopsAtOnce =
     → (advance s limit answers st .number ≡ 10) ⊎ (advance s limit answers st .number ≡ 11)
     → advance (finally s t) limit answers st ≡ advance s limit answers st
 
--- For steps that begin with a read that is the same as trying on: the second from where the first stopped, as if that were in 0; its failure wins.
+-- Where the second begins with a read and never ends unsupported, this is to try it from where the first stopped, with the number set to 0;
+-- its failure wins.
 abbrev pub TriesOn : Type 0
 TriesOn =
-    (s t : Steps) (limit : ℕ) → Plain t → BeginsWithRead t → 0 < limit → (answers : List ℕ) (st : State) → st .number ≡ 0
+    (s t : Steps) (limit : ℕ) → Supported t → BeginsWithRead t → 0 < limit → (answers : List ℕ) (st : State) → st .number ≡ 0
     → advance (finally s t) limit answers st
     ≡ standing (advance s limit answers st) (advance t limit answers (withNumber 0 (advance s limit answers st)))

@@ -1,4 +1,5 @@
--- A run of steps, given the limit, the entries that still fit the log, the answers left and the memory.
+-- What any steps come to, given the limit (document 01: limit), the entries that still fit the log, the answers left and the memory.
+-- Document 01's run is one whole call: `called` in State.
 use mathlib.Core.Bool.{Bool, true, cond}
 use mathlib.Core.List.{List, [], _∷_}
 use Prim.Native.Nat.{ℕ, zero, suc}

@@ -1,5 +1,6 @@
--- Settled instances that the machine alone decides (document 01's P11 among them), and an instance of each law's hypothesis.
+-- Settled instances that the machine alone decides, and an instance of each law's hypothesis.
 use mathlib.Core.Path.{_≡_}
+use mathlib.Core.Bool.{false}
 use mathlib.Core.List.{List, [], _∷_}
 use Prim.Native.Nat.{ℕ}
 use lib.ListN.{replicate}
@@ -7,10 +8,13 @@ use Rattle.model.specs.Wait.Cause.{empty, start}
 use Rattle.model.specs.Steps.{Steps, then, finally, waitFor}
 use Rattle.model.specs.Steps.End.{done, unsupported}
 use Rattle.model.specs.Steps.Steps.{end, get}
-use Rattle.model.specs.State.{State, begun, advance}
+use Rattle.model.specs.Run.{run}
+use Rattle.model.specs.State.{State, begun, advance, called}
 use Rattle.model.specs.Limit.{AnotherLimitMet}
+use Rattle.model.specs.Ends.{Met}
 use Rattle.model.specs.Polls.{AtMost}
-use Rattle.model.specs.Order.{Plain, BeginsWithRead}
+use Rattle.model.specs.Supported.{Supported}
+use Rattle.model.specs.Order.{BeginsWithRead}
 use Rattle.model.specs.Frame.{Inside}
 
 -- number, entries, answers, polls, longest of some steps with so many words of log
@@ -24,9 +28,6 @@ unfoldable pub fetched : State
 fetched = advance (get 1 (get 2 (end done))) 1 (0x1aa ∷ []) (begun (replicate 5 7) (1 ∷ 2 ∷ 3 ∷ []))
 
 pub record Settled : Type 0 where
-  -- P11, a flush at limit 3: two unready polls then a ready one give 0, three unready ones 1
-  pub ready-third : endOf (waitFor start) 3 9 (0x80000000 ∷ 0x80000000 ∷ 0 ∷ []) ≡ 0 ∷ 3 ∷ 3 ∷ 3 ∷ 2 ∷ []
-  pub unready-third : endOf (waitFor start) 3 9 (0x80000000 ∷ 0x80000000 ∷ 0x80000000 ∷ 0 ∷ []) ≡ 1 ∷ 3 ∷ 3 ∷ 3 ∷ 3 ∷ []
   -- without room 10, also without an answer; three words are room for one entry
   pub full : endOf (waitFor start) 3 1 [] ≡ 10 ∷ 0 ∷ 0 ∷ 0 ∷ 0 ∷ []
   pub dry : endOf (waitFor start) 3 3 [] ≡ 11 ∷ 0 ∷ 0 ∷ 0 ∷ 0 ∷ []
@@ -46,6 +47,12 @@ pub record Settled : Type 0 where
 pub record HypothesesMet : Type 0 where
   pub limit : AnotherLimitMet
   pub waits : AtMost 1 (waitFor start)
-  pub plain : Plain (waitFor start)
+  pub supported : Supported (waitFor start)
   pub reads : BeginsWithRead (waitFor start)
+  -- a run that ends in 1, and states from which steps meet 10 and 11
+  pub late : run (waitFor start) 1 false 1 (0x80000000 ∷ []) [] .number ≡ 1
+  pub full : advance (waitFor start) 1 [] (begun [] []) .number ≡ 10
+  pub dry : advance (waitFor start) 1 [] (begun (7 ∷ 7 ∷ []) []) .number ≡ 11
+  -- a call whose number no steps end in
+  pub refused : Met (called 6 (waitFor start) 1 [] [] [] .number) → ⊥
   pub inside : Inside 1 2 (get 2 (end done)) (get 1 (end done))

@@ -61,7 +61,7 @@ advance s limit answers st = onward (run s limit false) answers st
 abbrev pub limitFirst : ℕ → ℕ → ℕ
 limitFirst limit other = cond (eqb limit 0) 7 other
 
--- A call as its user sees it: a refusal leaves counts of 0, and the log and the memory as they were; else the steps run from no entry on.
+-- A call as its user sees it (document 01: run): a refusal leaves counts of 0, and the log and the memory as they were; else the steps run from no entry on.
 unfoldable pub called : ℕ → Steps → ℕ → List ℕ → List ℕ → List ℕ → State
 called refused s limit answers log m =
     cond (eqb refused 0) (advance s limit answers (begun log m)) (withNumber refused (begun log m))

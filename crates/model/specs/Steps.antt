@@ -3,7 +3,7 @@ use mathlib.Core.List.{List}
 use Prim.Native.Nat.{ℕ}
 use Rattle.model.specs.Wait.{Cause}
 use Rattle.model.specs.Event.{Act, Ask}
-use Rattle.model.specs.Event.Act.{write}
+use Rattle.model.specs.Event.Act.{write, delay}
 use Rattle.model.specs.Event.Ask.{register}
 
 -- how steps end by themselves; 1, 10 and 11 are met on the way
@@ -45,6 +45,10 @@ finally (wait c k u) t = wait c (λ n. finally (k n) t) (finally u t)
 -- a change (document 01's term): one read and one write at a place
 unfoldable pub change : ℕ → (ℕ → ℕ) → Steps
 change place f = ask (register place) (λ word. act (write place (f word)) (end done))
+
+-- a delay, in cycles
+abbrev pub pause : ℕ → Steps
+pause cycles = act (delay cycles) (end done)
 
 -- a wait that is for nothing else, with nothing tried after a timeout
 unfoldable pub waitFor : Cause → Steps

@@ -5,12 +5,13 @@ use Prim.Native.Nat.{ℕ, _<_}
 use native.Mathlib.Omega.{arith}
 use lib.Dec.{eqb, ltb}
 use borrow.Author.Tests.{ne-eqb}
-use Rattle.model.proofs.Called.{called-refused, another-limit-called}
+use Rattle.model.specs.State.{called}
+use Rattle.model.proofs.Called.{called-refused, others-touch-nothing, refusal-not-met, another-limit-called}
 use Rattle.config.specs.Spi.{supported}
 use Rattle.config.specs.Config.{isQpi}
 use Rattle.opening.specs.Steps.{releaseSteps}
 use Rattle.opening.specs.Call.{Opening, refusal, openingRefusal, stepsOf, rateOf, withRate, opens, releases}
-use Rattle.opening.specs.Laws.{OpeningAgain, ReleaseAgain, OpeningPolls, ReleasePolls, OpeningRefused}
+use Rattle.opening.specs.Laws.{OpeningAgain, ReleaseAgain, OpeningPolls, ReleasePolls, OpeningRefused, OpeningUntouched}
 use Rattle.opening.proofs.Polls.{opening-waits, release-waits, called-polls}
 
 -- the first of four tests that holds
@@ -65,3 +66,9 @@ release-polls i l ws log m = called-polls 0 (releaseSteps i) l ws log m (release
 pub opening-refused : OpeningRefused
 unfolding opens
 opening-refused o l ws log m i = rw (called-refused (stepsOf o) l ws log m i, ne-eqb _ _ i) refl
+
+pub opening-untouched : OpeningUntouched
+unfolding opens
+opening-untouched o l ws log m a b =
+    let i : called (openingRefusal o l) (stepsOf o) l ws log m .number ≡ 0 → ⊥ = λ z. omega (arith, z) in
+    (others-touch-nothing _ (stepsOf o) l ws log m (refusal-not-met _ a b), rw (ne-eqb _ _ i) refl)

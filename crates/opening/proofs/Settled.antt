@@ -10,15 +10,15 @@ use Rattle.model.specs.Run.{entered, answered, run}
 use Rattle.model.specs.State.{roomOf, ran, onward, advance, called}
 use Rattle.clock.specs.Candidate.{factorAt}
 use Rattle.clock.specs.Rank.{rank, lowest, chosen}
-use Rattle.configure.specs.Steps.{moduleClock, clockDivider, controllerClock, controllerOn, chipSelect, transferFormat, transferConfig, busMode, workMode, registerSteps, fifoSteps}
+use Rattle.configure.specs.Steps.{enableModuleClock, clockDivider, controllerClock, controllerOn, chipSelect, transferFormat, transferConfig, busMode, configureWorkMode, registerSteps, fifoSteps}
 use Rattle.opening.specs.Steps.{openingSteps, releaseSteps}
 use Rattle.opening.specs.Call.{refusal, stepsOf, opens, releases}
 use Rattle.opening.specs.Settled.{endOf, logOf, releasedLog, Settled, HypothesesMet}
 
 pub settled : Settled
 unfolding endOf logOf releasedLog setField headOf valueOf answerOf answersOf words stored plus tallyEvent tallyOf then change entered answered run roomOf ran
-    onward advance called factorAt rank lowest chosen moduleClock clockDivider controllerClock controllerOn chipSelect transferFormat transferConfig busMode
-    workMode registerSteps fifoSteps openingSteps releaseSteps refusal stepsOf opens releases
+    onward advance called factorAt rank lowest chosen enableModuleClock clockDivider controllerClock controllerOn chipSelect transferFormat transferConfig busMode
+    configureWorkMode registerSteps fifoSteps openingSteps releaseSteps refusal stepsOf opens releases
 settled =
     record {
       default-log = refl;
@@ -40,6 +40,6 @@ settled =
 
 pub hypotheses-met : HypothesesMet
 unfolding setField headOf valueOf answerOf answersOf words stored plus tallyEvent tallyOf then change entered answered run roomOf ran onward advance called
-    factorAt rank lowest chosen moduleClock clockDivider controllerClock controllerOn chipSelect transferFormat transferConfig busMode workMode registerSteps
+    factorAt rank lowest chosen enableModuleClock clockDivider controllerClock controllerOn chipSelect transferFormat transferConfig busMode configureWorkMode registerSteps
     fifoSteps openingSteps releaseSteps refusal stepsOf opens releases
-hypotheses-met = record { opened = inl refl; released = inl refl; refused = λ h. omega (arith, h) }
+hypotheses-met = record { opened = inl refl; released = inl refl; refused = λ h. omega (arith, h); refused-by = refl }

@@ -5,6 +5,7 @@ use mathlib.Core.Logic.{_↔_}
 use Prim.Native.Nat.{ℕ, _<_}
 use Rattle.model.specs.Tally.{none}
 use Rattle.model.specs.State.{begun, withNumber}
+use Rattle.model.specs.Called.{Untouched}
 use Rattle.model.specs.Limit.{Ended, AgainCall}
 use Rattle.opening.specs.Call.{Opening, Result, openingRefusal, opens, releases}
 
@@ -36,3 +37,9 @@ abbrev pub OpeningRefused : Type 0
 OpeningRefused =
     (o : Opening) (limit : ℕ) (answers log m : List ℕ) → (openingRefusal o limit ≡ 0 → ⊥)
     → opens o limit answers log m ≡ record { state = withNumber (openingRefusal o limit) (begun log m); rate = 0 }
+
+-- By its number: an opening that ends in 3 to 9 has touched no register and no lent byte, and gives no rate.
+abbrev pub OpeningUntouched : Type 0
+OpeningUntouched =
+    (o : Opening) (limit : ℕ) (answers log m : List ℕ) → 2 < opens o limit answers log m .state .number → opens o limit answers log m .state .number < 10
+    → Untouched log m (opens o limit answers log m .state) × (opens o limit answers log m .rate ≡ 0)

@@ -105,3 +105,4 @@ pub record HypothesesMet : Type 0 where
   pub opened : Ended (opens (asked 0 defaultConfig) 1 (replicate 13 0) (replicate 60 7) [] .state .number)
   pub released : Ended (releases 0 0 (0 ∷ []) (replicate 4 7) [] .number)
   pub refused : openingRefusal (asked 4 defaultConfig) 1 ≡ 0 → ⊥
+  pub refused-by : opens (asked 4 defaultConfig) 1 [] [] [] .state .number ≡ 4

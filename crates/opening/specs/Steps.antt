@@ -4,12 +4,12 @@ use Rattle.model.specs.Field.{setField}
 use Rattle.model.specs.Steps.{Steps, then, change}
 use Rattle.config.specs.declared.config.QspiConfig.{QspiConfig}
 use Rattle.clock.specs.declared.DividerSelect.{DividerSelect}
-use Rattle.configure.specs.Steps.{moduleClock, registerSteps, fifoSteps}
+use Rattle.configure.specs.Steps.{enableModuleClock, registerSteps, fifoSteps}
 
 -- of an instance: its module divider and its divider, the rate that they give, the oscillator, the configuration
 unfoldable pub openingSteps : ℕ → ℕ → DividerSelect → ℕ → ℕ → QspiConfig → Steps
 openingSteps instance div divider rate oscillator config =
-    then (moduleClock instance div) (then (registerSteps config divider rate oscillator) fifoSteps)
+    then (enableModuleClock instance div) (then (registerSteps config divider rate oscillator) fifoSteps)
 
 -- one clock-word change clearing bits 8, 12, 13; instances above 3 use 1003
 unfoldable pub releaseSteps : ℕ → Steps

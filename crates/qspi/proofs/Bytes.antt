@@ -26,7 +26,7 @@ use Rattle.qspi.specs.Phases.{Move, moved, movedAll, paced, gots}
 use Rattle.qspi.specs.Phases.Move.{sent}
 use Rattle.waits.specs.Does.{Waits}
 use Rattle.qspi.proofs.Paced.{portion, paced-wait, portion-part, take-sent, drop-sent, length-gots, take-gots, drop-gots, all-inside}
-use Rattle.access.proofs.Sequence.{runs-part}
+use Rattle.access.proofs.Sequence.{part-length, runs-part}
 
 -- sending with no wait, after i bytes
 pub record Sending (bytes : List ℕ) (p : Progress) (log : List ℕ) (r : Progress) (log' : List ℕ) (i : ℕ) : Type 0 where
@@ -206,7 +206,7 @@ portion-inside : {limit : ℕ} {answers : List ℕ} {t u : Progress} {log'' log'
     → Gets (movedAll (gots 0 (length (take len (drop i buf))))) answers t log'' (take len (drop i buf)) u log''' part'
     → Runs (movedAll (gots i len)) limit answers t log'' buf u log''' (take i buf ++ (part' ++ drop len (drop i buf)))
 portion-inside {limit} {answers} {t} {u} {log''} {log'''} {buf} {part'} i len h g =
-    let l : length (take len (drop i buf)) ≡ len = simp (length-take, length-drop) (omega arith) in
+    let l = part-length i len buf h in
     runs-part (movedAll (gots i len)) (movedAll (gots 0 len)) i len h (rw add-zero at (all-inside i len 0 len (omega arith))) (rw l at (g .runs limit))
 
 module _ {buf buf' answers : List ℕ} {limit : ℕ} {p r t : Progress} {log log' log'' : List ℕ} {i count : ℕ}
@@ -227,7 +227,7 @@ module _ {buf buf' answers : List ℕ} {limit : ℕ} {p r t : Progress} {log log
       → Reading buf limit answers p log u log''' (take i buf' ++ (part' ++ drop len (drop i buf'))) (i + len)
   reading-more {u} {log'''} {part'} {len} z e k g =
       let s = on .same in
-      let l : length (take len (drop i buf')) ≡ len = simp (length-take, length-drop) (omega arith) in
+      let l = part-length i len buf' (omega arith) in
       record {
         same = simp (length-append, length-take, length-drop) (omega arith);
         within = omega arith;

@@ -5,7 +5,7 @@ use mathlib.Core.List.{List, [], _∷_, _++_, map}
 use Prim.Native.Nat.{ℕ, zero, suc, pred, _+_, _≤_}
 use native.Mathlib.Omega.{arith}
 use native.Mathlib.Nat.{add-zero}
-use lib.ListN.{length, take, drop, length-take, length-drop}
+use lib.ListN.{length, take, drop}
 use Rattle.model.specs.Wait.{Cause}
 use Rattle.model.specs.Wait.Cause.{space, received, empty, start}
 use Rattle.model.specs.Steps.{change, waitFor}
@@ -18,7 +18,7 @@ use Rattle.qspi.specs.Phases.{moved, paced, resetFifos, programTransfer,
 use Rattle.qspi.specs.Phases.Move.{sent}
 use Rattle.access.specs.Does.{Runs}
 use Rattle.qspi.proofs.Paced.{gots-inside}
-use Rattle.access.proofs.Sequence.{runs-part}
+use Rattle.access.proofs.Sequence.{part-length, runs-part}
 
 module _ {at n : ℕ} where
   pub change-inside : (place : ℕ) (f : ℕ → ℕ) → Inside at n (change place f) (change place f)
@@ -63,5 +63,4 @@ pub rx-window : (at len : ℕ) {limit : ℕ} {answers : List ℕ} {p r : Progres
     → Runs (rxPhase 0 (length (take len (drop at m)))) limit answers p log (take len (drop at m)) r log' part'
     → Runs (rxPhase at len) limit answers p log m r log' (take at m ++ (part' ++ drop len (drop at m)))
 rx-window at len {m = m} h d =
-    let l : length (take len (drop at m)) ≡ len = simp (length-take, length-drop) (omega arith) in
-    runs-part (rxPhase at len) (rxPhase 0 len) at len h (rw add-zero at (rx-inside {at = at} {n = len} 0 len (omega arith))) (rw l at d)
+    runs-part (rxPhase at len) (rxPhase 0 len) at len h (rw add-zero at (rx-inside {at = at} {n = len} 0 len (omega arith))) (rw (part-length at len m h) at d)

@@ -6,14 +6,14 @@ use lib.ListN.{length}
 use Rattle.model.specs.Field.{setField}
 use Rattle.model.specs.Wait.{Cause}
 use Rattle.model.specs.Wait.Cause.{space, received, empty, start}
-use Rattle.model.specs.Event.Act.{send, delay}
-use Rattle.model.specs.Steps.{Steps, then, change, waitFor}
+use Rattle.model.specs.Event.Act.{send}
+use Rattle.model.specs.Steps.{Steps, then, change, pause, waitFor}
 use Rattle.model.specs.Steps.End.{done}
 use Rattle.model.specs.Steps.Steps.{end, act, get, wait}
 
 -- 018 bits 31 and 15; delay 10
 unfoldable pub resetFifos : Steps
-resetFifos = then (change 0x018 (λ w. setField 15 1 1 (setField 31 1 1 w))) (act (delay 10) (end done))
+resetFifos = then (change 0x018 (λ w. setField 15 1 1 (setField 31 1 1 w))) (pause 10)
 
 -- 030 the length; 034 the bytes to send; 038 bits 0 to 23 those on a single line, bits 24 to 27 the hardware's dummy bytes
 unfoldable pub programTransfer : ℕ → ℕ → ℕ → ℕ → Steps

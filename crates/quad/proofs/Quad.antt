@@ -7,7 +7,8 @@ use lib.Dec.{eqb}
 use Rattle.model.specs.Steps.{Steps, then, change, waitFor}
 use Rattle.model.specs.State as state
 use Rattle.model.specs.State.{standing, advance}
-use Rattle.model.specs.Order.{Plain, BeginsWithRead}
+use Rattle.model.specs.Supported.{Supported}
+use Rattle.model.specs.Order.{BeginsWithRead}
 use Rattle.model.proofs.Advance.{skipped}
 use Rattle.model.proofs.Finally.{tries-on}
 use Rattle.mode.specs.Mode.{lines, modeChanges, workMode}
@@ -18,10 +19,10 @@ use Rattle.access.proofs.Sequence.{then-does, then-runs, does-runs}
 use Rattle.quad.specs.Quad.{standardMode, quadStart, quadSteps}
 use Rattle.quad.specs.Frames.{Closes}
 
--- Mode Standard ends as done, but for a timeout, and begins with a poll.
-standard-plain : Plain standardMode
+-- Mode Standard never ends unsupported, and begins with a poll.
+standard-supported : Supported standardMode
 unfolding standardMode workMode modeChanges lines waitFor then change
-standard-plain = λ n w w'. refl
+standard-supported = (λ n w w'. tt, tt)
 
 standard-begins : BeginsWithRead standardMode
 unfolding standardMode workMode waitFor then
@@ -50,7 +51,7 @@ module _ (command : List ℕ) (phase : Steps) {limit : ℕ} {answers : List ℕ}
         state =
             s .state _
             ∙ ap (λ st. standing st (advance standardMode limit answers (state.withNumber 0 st))) (f .state)
-            ∙ sym (tries-on phase standardMode limit standard-plain standard-begins some answers _ z);
+            ∙ sym (tries-on phase standardMode limit standard-supported standard-begins some answers _ z);
       })
 
   pub quad-does : {t u : Progress} {log'' log''' : List ℕ} → 0 < limit → r .number ≡ 0 → Does phase limit answers r log' t log''

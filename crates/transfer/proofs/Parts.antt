@@ -17,7 +17,7 @@ use Rattle.model.proofs.Next.{look-next}
 use Rattle.access.specs.declared.progress.Progress.{Progress}
 use Rattle.access.specs.Of.{stateOf}
 use Rattle.access.specs.Does.{Sound, Runs}
-use Rattle.access.proofs.Sequence.{runs-part}
+use Rattle.access.proofs.Sequence.{part-length, runs-part}
 use Rattle.qspi.proofs.Windows.{tx-inside, rx-inside}
 use Rattle.transfer.specs.Transfer.{transferSteps, partSteps, parts, inPlaceSteps}
 
@@ -91,7 +91,7 @@ module _ {buf buf' answers : List ℕ} {limit : ℕ} {p r : Progress} {log log' 
       → Exchanging buf limit answers p log t log'' (take i buf' ++ (part' ++ drop len (drop i buf'))) (i + len)
   exchanging-more len h e k f =
       let s = on .same in
-      let l : length (take len (drop i buf')) ≡ len = simp (length-take, length-drop) (omega arith) in
+      let l = part-length i len buf' (omega arith) in
       record {
         same = simp (length-append, length-take, length-drop) (omega arith);
         within = omega arith;

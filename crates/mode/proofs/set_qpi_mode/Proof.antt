@@ -1,6 +1,6 @@
 use Rattle.model.specs.Steps.End.{unsupported}
 use Rattle.mode.specs.Mode.{qpiMode}
-use Rattle.mode.proofs.Mode.{works-end, works-not}
+use Rattle.access.proofs.Sequence.{works-end, works-not}
 use borrow.Author.Needs.{needs}
 use Rattle.mode.proofs.set_qpi_mode.Statement.{statement}
 use Rattle.mode.proofs.set_qpi_mode.Tie as tie

@@ -1,4 +1,4 @@
-use native.Mathlib.Omega.{arith}
+use Rattle.access.proofs.Sequence.{begun-sound}
 use Rattle.opening.proofs.Call.{released}
 use borrow.Author.Needs.{needs}
 use Rattle.opening.proofs.free.Statement.{statement}
@@ -8,7 +8,7 @@ new-requires : tie.Need-new-requires
 new-requires c κs = search needs
 
 release-requires : tie.Need-release-requires
-release-requires c κs = rw (c .before .new .ensures) (omega arith)
+release-requires c κs = begun-sound (c .before .new .ensures)
 
 same-length : tie.Need-same-length
 same-length c = search needs

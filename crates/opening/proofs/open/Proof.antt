@@ -1,5 +1,5 @@
 use Rattle.opening.proofs.Call.{accepted, refused-opens, runs-opens}
-use native.Mathlib.Omega.{arith}
+use Rattle.access.proofs.Sequence.{begun-sound}
 use borrow.Author.Needs.{needs}
 use Rattle.opening.proofs.open.Statement.{statement}
 use Rattle.opening.proofs.open.Tie as tie
@@ -38,7 +38,7 @@ new-requires-2 c κs =
     let test = c .before .before .before .before in
     let refused = test .before in
     let begun = refused .before .before in
-    (rw (begun .new .ensures) (omega arith), accepted _ _ _ _ _ (refused .refused .ensures) (test .if1 .left))
+    (begun-sound (begun .new .ensures), accepted _ _ _ _ _ (refused .refused .ensures) (test .if1 .left))
 
 with-rate-requires-2 : tie.Need-with-rate-requires-2
 with-rate-requires-2 c κs = search needs

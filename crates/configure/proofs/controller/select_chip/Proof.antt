@@ -1,5 +1,5 @@
 use Rattle.configure.specs.Steps.{chipSelect}
-use Rattle.configure.proofs.Configure.{nothing-works}
+use Rattle.access.proofs.Sequence.{nothing-works}
 use borrow.Author.Needs.{needs}
 use Rattle.configure.proofs.controller.select_chip.Statement.{statement}
 use Rattle.configure.proofs.controller.select_chip.Tie as tie

@@ -1,4 +1,4 @@
-use Rattle.configure.specs.Steps.{moduleClock}
+use Rattle.configure.specs.Steps.{enableModuleClock}
 use Rattle.access.proofs.Sequence.{then-works, acts-works}
 use Rattle.configure.proofs.Configure.{own-place}
 use borrow.Author.Needs.{needs}
@@ -24,7 +24,7 @@ same-length : tie.Need-same-length
 same-length c = search needs
 
 returns : tie.Need-returns
-unfolding moduleClock
+unfolding enableModuleClock
 returns c =
     let released = c .before .before in
     let delayed = released .before .before .before .before in
