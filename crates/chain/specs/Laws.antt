@@ -1,12 +1,14 @@
--- Demand 3 for a chain as one run, what a refusal leaves, and what a record's steps do not look at.
+-- Demand 3 for a chain as one run, what a refusal leaves, and which fields of a record matter.
 use mathlib.Core.Path.{_≡_}
-use mathlib.Core.Bool.{Bool, false}
-use mathlib.Core.List.{List, [], _∷_, _++_}
+use mathlib.Core.Bool.{Bool, true, false, not, _&&_}
+use mathlib.Core.List.{List, [], _∷_, _++_, map}
 use Prim.Native.Nat.{ℕ, _<_}
-use lib.ListN.{length, replicate}
+use lib.Dec.{eqb}
+use lib.ListN.{length, getD, set, replicate}
 use Rattle.model.specs.State.{State, begun, withNumber}
 use Rattle.model.specs.Limit.{Ended, AgainCall}
-use Rattle.records.specs.Check.{checked}
+use Rattle.records.specs.Kinds.{kindOf}
+use Rattle.records.specs.Check.{any, checked}
 use Rattle.records.specs.Laws.{Alike}
 use Rattle.chain.specs.Chain.{recordSteps}
 use Rattle.chain.specs.Transaction.{Chain, refusal, outcome, transaction}
@@ -29,6 +31,26 @@ TransactionNever2 = (words : List ℕ) (limit : ℕ) (answers log m : List ℕ) 
 -- Unused fields are not looked at: records that differ at most there run alike. An instance of such records is in `records`.
 abbrev pub UnusedFieldsRun : Type 0
 UnusedFieldsRun = (r s : List ℕ) → Alike r s → (rate : ℕ) (qpi : Bool) → recordSteps rate qpi r ≡ recordSteps rate qpi s
+
+-- a chain of one record, with room for one entry
+abbrev pub alone : List ℕ → State
+alone r = outcome (record { rate = 100_000_000; qpi = true; highest = 9; words = r }) 1 (0 ∷ []) (0 ∷ 0 ∷ []) (0 ∷ [])
+
+-- does 256 for 0 in a field of a record of zeros show, in the number or in the entry
+abbrev pub matters : ℕ → ℕ → Bool
+matters kind f =
+    let zeros = kind ∷ replicate 7 0 in
+    let a = alone zeros in
+    let b = alone (set zeros f 256) in
+    not (eqb (a .number) (b .number) && (eqb (getD (a .log) 0 0) (getD (b .log) 0 0) && eqb (getD (a .log) 1 0) (getD (b .log) 1 0)))
+
+-- for each of the kinds 1 to 9, of each of the fields 1 to 6
+abbrev pub ofEach : (ℕ → ℕ → Bool) → List (List Bool)
+ofEach p = map (λ kind. map (p kind) (1 ∷ 2 ∷ 3 ∷ 4 ∷ 5 ∷ 6 ∷ [])) (1 ∷ 2 ∷ 3 ∷ 4 ∷ 5 ∷ 6 ∷ 7 ∷ 8 ∷ 9 ∷ [])
+
+-- The fields that the table of kinds has as used are those that matter.
+abbrev pub UsedFields : Type 0
+UsedFields = ofEach (λ kind f. any (eqb f) (kindOf kind .used)) ≡ ofEach matters
 
 -- a chain of one flush, whose first poll is unready
 abbrev pub flushed : ℕ → State
