@@ -2,9 +2,8 @@
 use mathlib.Core.Path.{_≡_}
 use mathlib.Core.Bool.{Bool, true, false, cond}
 use mathlib.Core.List.{List, [], _∷_}
-use Prim.Native.Nat.{ℕ, _≤_}
+use Prim.Native.Nat.{ℕ, _+_, _≤_}
 use native.Mathlib.Omega.{arith}
-use native.Mathlib.Nat.{zero-add}
 use lib.Dec.{ltb}
 use Rattle.model.specs.State.{begun, advance}
 use Rattle.model.proofs.Called.{called-holds, another-limit-first}
@@ -29,18 +28,17 @@ calls-again call limit limit' answers more log m =
     let lengths = lengthsOf call in
     another-limit-first (tooLong lengths) (stepsOf call) limit limit' answers more log m (length-never lengths)
 
--- A bound on the polls of a call's steps bounds the call, refused or not.
-call-polls : (bound : ℕ) (call : Call) (limit : ℕ) (answers log m : List ℕ) → advance (stepsOf call) limit answers (begun log m) .tally .polls ≤ bound
+-- A bound on the polls that a call's steps add bounds the call, refused or not.
+call-polls : (bound : ℕ) (call : Call) (limit : ℕ) (answers log m : List ℕ) → advance (stepsOf call) limit answers (begun log m) .tally .polls ≤ 0 + bound
     → outcome call limit answers log m .tally .polls ≤ bound
 unfolding outcome
 call-polls bound call limit answers log m h =
-    called-holds (λ st. st .tally .polls ≤ bound) (refusal limit (lengthsOf call)) (stepsOf call) limit answers log m (λ i. omega arith) (λ z. h)
+    called-holds (λ st. st .tally .polls ≤ bound) (refusal limit (lengthsOf call)) (stepsOf call) limit answers log m (λ i. omega arith) (λ z. omega (arith, h))
 
 pub write-call-polls : WriteCallPolls
 unfolding stepsOf
-write-call-polls bytes limit answers log m =
-    call-polls _ (write bytes) limit answers log m (rw zero-add at (write-adds true bytes limit answers (begun log m)))
+write-call-polls bytes limit answers log m = call-polls _ (write bytes) limit answers log m (write-adds _ bytes limit answers (begun log m))
 
 pub read-call-polls : ReadCallPolls
 unfolding stepsOf
-read-call-polls n limit answers log m = call-polls _ (read n) limit answers log m (rw zero-add at (read-adds 0 n limit answers (begun log m)))
+read-call-polls n limit answers log m = call-polls _ (read n) limit answers log m (read-adds _ n limit answers (begun log m))
