@@ -2,11 +2,11 @@
 use mathlib.Core.Path.{_≡_, refl}
 use mathlib.Core.Bool.{Bool, true, false, _&&_}
 use mathlib.Core.List.{List, [], _∷_}
-use Prim.Native.Nat.{ℕ, zero, suc, _-_, _≤_, min}
+use Prim.Native.Nat.{ℕ, zero, suc, _≤_, min}
 use native.Mathlib.Omega.{arith}
-use lib.Dec.{leb, eqb}
+use lib.Dec.{leb}
 use lib.ListN.{length, getD, take, drop}
-use borrow.Author.Tests.{eqb-true, eqb-false, leb-true}
+use borrow.Author.Tests.{leb-true}
 use Rattle.model.specs.Steps.{Steps}
 use Rattle.model.specs.Steps.End.{done}
 use Rattle.model.specs.Steps.Steps.{end}
@@ -14,7 +14,7 @@ use Rattle.model.specs.Run.{run}
 use Rattle.model.specs.State.{begun, roomOf, ran, advance, called}
 use Rattle.model.specs.Supported.{Supported}
 use Rattle.model.proofs.Advance.{starts}
-use Rattle.model.proofs.Called.{called-refused, called-runs, limit-never}
+use Rattle.model.proofs.Called.{called-holds, limit-never}
 use Rattle.model.proofs.Supported.{supported-never-2, then-supported}
 use Rattle.qspi.proofs.Supported.{tx-supported, rx-supported}
 use Rattle.transfer.specs.Transfer.{transferSteps, partSteps, parts, inPlaceSteps}
@@ -66,13 +66,9 @@ module _ (rate : ℕ) (qpi : Bool) where
 -- what never ends unsupported and is not refused by 2 gives no 2
 called-not : (refused : ℕ) (s : Steps) → Supported s → (limit : ℕ) (answers log m : List ℕ) → (refused ≡ 2 → ⊥) → called refused s limit answers log m .number ≡ 2 → ⊥
 unfolding advance ran
-called-not refused s h limit answers log m i = by (eqb refused 0) refl
-  where
-    by : (b : Bool) → eqb refused 0 ≡ b → called refused s limit answers log m .number ≡ 2 → ⊥
-    by true e =
-        rw (called-runs s limit answers log m (eqb-true _ _ e), starts (run s limit false) answers (begun log m) refl)
-        (supported-never-2 s h limit false (roomOf (begun log m)) answers m)
-    by false e = rw (called-refused s limit answers log m (eqb-false refused 0 e)) i
+called-not refused s h limit answers log m i =
+    called-holds (λ st. st .number ≡ 2 → ⊥) refused s limit answers log m (λ n. i)
+    (λ z. rw (starts (run s limit false) answers (begun log m) refl) (supported-never-2 s h limit false (roomOf (begun log m)) answers m))
 
 pub transaction-never-2 : TransactionNever2
 unfolding outcome refusal

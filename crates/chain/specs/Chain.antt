@@ -4,10 +4,9 @@ use mathlib.Core.List.{List, [], _∷_}
 use Prim.Native.Nat.{ℕ, _/_}
 use lib.ListN.{getD}
 use Rattle.model.specs.Wait.Cause.{start}
-use Rattle.model.specs.Event.Act.{delay}
-use Rattle.model.specs.Steps.{Steps, then, waitFor}
+use Rattle.model.specs.Steps.{Steps, then, pause, waitFor}
 use Rattle.model.specs.Steps.End.{done}
-use Rattle.model.specs.Steps.Steps.{end, act}
+use Rattle.model.specs.Steps.Steps.{end}
 use Rattle.config.specs.Config.{workModeOf}
 use Rattle.config.specs.declared.config.WorkModeFound.{WorkModeFound}
 use Rattle.config.specs.declared.config.WorkModeFound.the-variants.{Mode, Unknown}
@@ -34,7 +33,7 @@ kindSteps rate qpi f =
     ∷ rxPhase (f 1) (f 2)  -- 2 read
     ∷ transferWindows (f 1) (f 2) (f 3) (f 4)  -- 3 transfer: read f1 f2, write f3 f4
     ∷ inPlaceSteps (f 1) (f 2)  -- 4 in place
-    ∷ act (delay (delayCycles (f 1))) (end done)  -- 5 delay
+    ∷ pause (delayCycles (f 1))  -- 5 delay
     ∷ waitFor start  -- 6 flush
     ∷ modeSteps qpi (workModeOf (f 1))  -- 7 mode
     ∷ readQuadWindows rate (f 1) (f 2) (f 3) (f 4) (f 5) (f 6)  -- 8 quad read: command f1 f2, tclqv f3, margin f4, data f5 f6

@@ -6,10 +6,9 @@ use Prim.Native.Nat.{ℕ, zero, suc}
 use lib.ListN.{getD}
 use Rattle.model.specs.Wait.{Cause}
 use Rattle.model.specs.Wait.Cause.{space, received, empty, start}
-use Rattle.model.specs.Event.Act.{delay}
-use Rattle.model.specs.Steps.{Steps}
+use Rattle.model.specs.Steps.{Steps, pause}
 use Rattle.model.specs.Steps.End.{done, unsupported}
-use Rattle.model.specs.Steps.Steps.{end, act}
+use Rattle.model.specs.Steps.Steps.{end}
 use Rattle.config.specs.Config.{workModeOf}
 use Rattle.config.specs.declared.config.WorkMode.{WorkMode}
 use Rattle.config.specs.declared.config.WorkMode.the-variants.{Standard, ThreeWire, Dual, DualIO, Quad, QuadIO, Qpi}
@@ -38,7 +37,7 @@ paced-paired c n [] = ends done
 paced-paired c zero (x ∷ xs) = waits (λ count. moved-paired x (paced-paired c _ xs)) (ends done)
 paced-paired c (suc n) (x ∷ xs) = moved-paired x (paced-paired c n xs)
 
-delay-paired : (cycles : ℕ) → Paired (act (delay cycles) (end done))
+delay-paired : (cycles : ℕ) → Paired (pause cycles)
 delay-paired cycles = acts refl (ends done)
 
 reset-paired : Paired resetFifos

@@ -1,6 +1,6 @@
 -- Steps in which a read of 008 is a poll or is followed at once by a write there: their runs.
 use mathlib.Core.Path.{_≡_, refl}
-use mathlib.Core.Bool.{Bool, true, false, cond, _||_, true≢false}
+use mathlib.Core.Bool.{Bool, true, false, _||_, true≢false}
 use mathlib.Core.List.{List, [], _∷_}
 use mathlib.Core.Logic.{_⊎_, inl, inr, ⊎-elim}
 use Prim.Native.Nat.{ℕ, zero, suc, _+_, _*_}
@@ -17,6 +17,7 @@ use Rattle.model.specs.Steps.{Steps, End, then, finally, change, waitFor}
 use Rattle.model.specs.Steps.End.{done, unsupported}
 use Rattle.model.specs.Steps.Steps.{end, act, ask, get, look, wait}
 use Rattle.model.specs.Run.{Outcome, stop, after, entered, answered, poll, run}
+use Rattle.model.proofs.Every.{cond-holds}
 use Rattle.recount.specs.Recount.{entriesWith, reads, writes}
 
 -- a first word that is none of the three that are counted
@@ -117,17 +118,13 @@ on-answered e keeps zero ws m k h = stopped 10 zero ws m
 on-answered e keeps (suc r) [] m k h = stopped 11 (suc r) [] m
 on-answered e keeps (suc r) (x ∷ ws) m k h = keeps x (k x r ws) (h x r ws)
 
-on-cond : (b : Bool) (o o' : Outcome) → Balanced o → Balanced o' → Balanced (cond b o o')
-on-cond true o o' h h' = h
-on-cond false o o' h h' = h'
-
 on-poll : (c : Cause) (m : List ℕ) (k : ℕ → ℕ → List ℕ → Outcome) (u : ℕ → List ℕ → Outcome)
     → ((x r : ℕ) (l : List ℕ) → Balanced (k x r l)) → ((r : ℕ) (l : List ℕ) → Balanced (u r l))
     → (left n r : ℕ) (ws : List ℕ) → Balanced (poll c k u left n r ws m)
 unfolding poll
 on-poll c m k u hk hu zero n r ws = hu r ws
 on-poll c m k u hk hu (suc left) n r ws =
-    on-answered (polled c n) (polled-past c n) r ws m _ (λ x r' l. on-cond (ready c x) _ _ (hk _ r' l) (on-poll c m k u hk hu left _ r' l))
+    on-answered (polled c n) (polled-past c n) r ws m _ (λ x r' l. cond-holds Balanced (ready c x) (hk _ r' l) (on-poll c m k u hk hu left _ r' l))
 
 -- and a read of 008 with the write that follows it
 module _ (x v : ℕ) where

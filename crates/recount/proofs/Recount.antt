@@ -1,15 +1,13 @@
 -- Polls counted again, of every call, chain and sheet.
 use mathlib.Core.Path.{_≡_, refl, ap, _∙_}
-use mathlib.Core.Bool.{Bool, true, false}
+use mathlib.Core.Bool.{false}
 use mathlib.Core.List.{List, []}
 use mathlib.Core.Logic.{_⊎_, inl, inr, ⊎-elim}
 use Prim.Native.Nat.{ℕ, suc, _+_, _*_, _≤_}
 use native.Mathlib.Omega.{arith}
 use native.Mathlib.Nat.{zero-add}
-use lib.Dec.{eqb}
 use lib.ListN.{length, take}
 use lib.Seq.{take-at}
-use borrow.Author.Tests.{eqb-true, eqb-false}
 use Rattle.model.specs.Field.{getField, setField}
 use Rattle.model.specs.Event.{headOf, valueOf, answerOf, answersOf, receive, words, stored}
 use Rattle.model.specs.Tally.{plus, pollTally, tallyEvent, tallyOf}
@@ -17,7 +15,7 @@ use Rattle.model.specs.Steps.{Steps, then, change, waitFor}
 use Rattle.model.specs.Run.{Outcome, entered, answered, poll, run}
 use Rattle.model.specs.State.{begun, roomOf, ran, onward, advance, called}
 use Rattle.model.proofs.Advance.{starts}
-use Rattle.model.proofs.Called.{called-refused, called-runs}
+use Rattle.model.proofs.Called.{called-holds}
 use Rattle.model.proofs.Ends.{every-run-ends}
 use Rattle.model.proofs.Kept.{log-words}
 use Rattle.model.proofs.Trace.{length-words}
@@ -74,11 +72,8 @@ recounts {s} h limit answers log m =
 
 -- a call that may be refused
 called-recounts : (n : ℕ) {s : Steps} → Paired s → (limit : ℕ) (answers log m : List ℕ) → Recounts (called n s limit answers log m)
-called-recounts n {s} h limit answers log m = by (eqb n 0) refl
-  where
-    by : (b : Bool) → eqb n 0 ≡ b → Recounts (called n s limit answers log m)
-    by true e = rw (called-runs s limit answers log m (eqb-true _ _ e)) (recounts h limit answers log m)
-    by false e = rw (called-refused s limit answers log m (eqb-false n 0 e)) (untouched n log m)
+called-recounts n {s} h limit answers log m =
+    called-holds Recounts n s limit answers log m (λ i. untouched n log m) (λ z. recounts h limit answers log m)
 
 pub calls-recount : CallsRecount
 unfolding bus.outcome

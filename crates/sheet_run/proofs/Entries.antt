@@ -1,13 +1,12 @@
 -- A run's entries fit its log.
 use mathlib.Core.Path.{_≡_, ap, _∙_}
-use mathlib.Core.Bool.{Bool, true, false, cond}
 use mathlib.Core.List.{List, _++_}
 use Prim.Native.Nat.{ℕ, _+_, _*_, _≤_}
 use native.Mathlib.Omega.{arith}
-use lib.Dec.{eqb}
 use lib.ListN.{length, drop, replicate, length-append, length-replicate}
 use Rattle.model.specs.Steps.{Steps}
-use Rattle.model.specs.State.{begun, withNumber, advance, called}
+use Rattle.model.specs.State.{begun, called}
+use Rattle.model.proofs.Called.{called-holds}
 use Rattle.model.proofs.Kept.{every-advance-keeps}
 use Rattle.chain.specs.Transaction.{outcome}
 use Rattle.sheet.specs.Sheet.{Parsed, refused, sheet, parse}
@@ -18,12 +17,9 @@ use Rattle.sheet_run.specs.Run.{sheetOutcome, sheetState, RunsSheet}
 use Rattle.sheet_run.specs.Print.{progressIn, endState, printedSheet, Prints}
 
 called-fits : (n : ℕ) (s : Steps) (limit : ℕ) (answers log m : List ℕ) → called n s limit answers log m .entries * 2 ≤ length log
-unfolding called
-called-fits n s limit answers log m = by (eqb n 0)
-  where
-    by : (b : Bool) → cond b (advance s limit answers (begun log m)) (withNumber n (begun log m)) .entries * 2 ≤ length log
-    by true = every-advance-keeps s limit answers (begun log m) .fits (omega arith)
-    by false = omega arith
+called-fits n s limit answers log m =
+    called-holds (λ st. st .entries * 2 ≤ length log) n s limit answers log m (λ i. omega arith)
+    (λ z. every-advance-keeps s limit answers (begun log m) .fits (omega arith))
 
 outcome-fits : (p : Parsed) (log : List ℕ) → sheetOutcome p log .entries * 2 ≤ length log
 unfolding sheetOutcome outcome

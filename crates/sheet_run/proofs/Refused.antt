@@ -1,13 +1,11 @@
 -- A refused sheet, and the number that none gives.
 use mathlib.Core.Path.{_≡_, refl}
 use mathlib.Core.List.{List, _++_}
-use mathlib.Core.Logic.{⊎-elim}
 use Prim.Native.Nat.{ℕ, _-_, _≤_}
 use native.Mathlib.Omega.{arith}
 use lib.ListN.{length, take, drop, length-drop, take-append-drop}
 use Rattle.model.specs.State.{begun, withNumber, withMemory}
-use Rattle.model.specs.Ends.{Met}
-use Rattle.model.proofs.Called.{limit-never, called-never}
+use Rattle.model.proofs.Called.{limit-never, called-never, refusal-not-met}
 use Rattle.records.specs.Check.{Checked, checked, verdict, numberOf, chainOf}
 use Rattle.records.specs.Laws.{EachFault}
 use Rattle.records.proofs.Lengths.{never-6}
@@ -39,10 +37,6 @@ refused-leaves bs log = by (parse bs) refl
     by refused e i = refl
     by (sheet s) e i = rw (chain-refused (chainIn s) (s .limit) (s .answers) log (s .memory) i, rejoined bs s e) refl
 
-not-met : Met 6 → ⊥
-not-met h =
-    ⊎-elim (λ e. omega (arith, e)) (⊎-elim (λ e. omega (arith, e)) (⊎-elim (λ e. omega (arith, e)) (⊎-elim (λ e. omega (arith, e)) (λ e. omega (arith, e))))) h
-
 fault-never : (c : Checked) → EachFault (λ n. n ≡ 6 → ⊥) c → numberOf (verdict c) ≡ 6 → ⊥
 fault-never (Checked.fault n i) f e = f e
 fault-never (Checked.chain rs) f e = omega (arith, e)
@@ -63,5 +57,6 @@ sheet-never-6 bs log = by (parse bs) refl
     by refused e = λ h. omega (arith, h)
     by (sheet s) e =
         let found = checked 9 (length (s .memory)) (s .records) in
-        called-never 6 (refusal (s .limit) found) (chainSteps (s .rate) (chainIn s .qpi) (chainOf found)) (s .limit) (s .answers) log (s .memory) not-met
+        called-never 6 (refusal (s .limit) found) (chainSteps (s .rate) (chainIn s .qpi) (chainOf found)) (s .limit) (s .answers) log (s .memory)
+        (refusal-not-met 6 (omega arith) (omega arith))
         (limit-never (s .limit) (numberOf (verdict found)) 6 (omega arith) (fault-never found (never-6 (length (s .memory)) (memory-short bs s e) 9 (s .records))))

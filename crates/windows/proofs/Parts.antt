@@ -5,7 +5,7 @@ use mathlib.Core.List.{List, _++_}
 use Prim.Native.Nat.{ℕ, _+_, _^_, _≤_, _<_}
 use native.Mathlib.Omega.{arith}
 use native.Mathlib.Nat.{add-zero}
-use lib.ListN.{length, take, drop, length-take, length-drop}
+use lib.ListN.{length, take, drop}
 use Rattle.model.specs.Steps.{Steps}
 use Rattle.model.specs.Steps.Steps.{look}
 use Rattle.model.specs.Frame.{Inside}
@@ -15,7 +15,7 @@ use Rattle.model.proofs.Next.{look-next}
 use Rattle.access.specs.declared.progress.Progress.{Progress}
 use Rattle.access.specs.Of.{stateOf}
 use Rattle.access.specs.Does.{Runs}
-use Rattle.access.proofs.Sequence.{runs-part}
+use Rattle.access.proofs.Sequence.{part-length, runs-part}
 use Rattle.qspi.specs.Phases.{rxPhase}
 use Rattle.qspi.proofs.Windows.{change-inside, wait-inside, tx-inside, rx-inside}
 use Rattle.config.specs.declared.config.WorkMode.{WorkMode}
@@ -25,9 +25,6 @@ use Rattle.transfer.specs.Transfer.{inPlaceSteps}
 use Rattle.transfer.proofs.Parts.{in-place-inside}
 use Rattle.quad.specs.Quad.{quadMode, standardMode, quadStart, quadSteps}
 use Rattle.windows.specs.Windows.{window}
-
-part-length : (at n : ℕ) (m : List ℕ) → at + n ≤ length m → length (take n (drop at m)) ≡ n
-part-length at n m h = simp (length-take, length-drop) (omega arith)
 
 -- a window that is short is a part that is short
 pub short : (start n : ℕ) (m : List ℕ) {part : List ℕ} → part ≡ window start n m → (start + n ≤ length m) × (n < 2 ^ 24) → length part < 2 ^ 24

@@ -1,4 +1,4 @@
-use native.Mathlib.Omega.{arith}
+use Rattle.access.proofs.Sequence.{begun-sound}
 use Rattle.chain.proofs.Entry.{accepted, refused-transacts, runs-transacts}
 use borrow.Author.Needs.{needs}
 use Rattle.chain.proofs.transact.Statement.{statement}
@@ -23,7 +23,7 @@ run-chain-requires : tie.Need-run-chain-requires
 run-chain-requires c κs =
     let test = c .before .before .before in
     let ok = accepted _ _ _ (test .before .refused .ensures) (test .if1 .left) in
-    (rw (c .before .before .new2 .ensures) (omega arith), (ok .0, ok .1))
+    (begun-sound (c .before .before .new2 .ensures), (ok .0, ok .1))
 
 same-length : tie.Need-same-length
 same-length c = search needs
