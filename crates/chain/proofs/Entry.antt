@@ -14,7 +14,7 @@ use Rattle.records.specs.Check.{Checked, checked, verdict, numberOf, chainOf}
 use Rattle.records.specs.Laws.{EachFault}
 use Rattle.records.proofs.Lengths.{fault-numbers}
 use Rattle.chain.specs.Chain.{chainSteps}
-use Rattle.chain.specs.Transaction.{Chain, refusal, outcome, Transacts}
+use Rattle.chain.specs.Transaction.{Request, refusal, outcome, Transacts}
 use Rattle.chain.specs.Laws.{ChainAgain, ChainRefused}
 
 pub refused-by : {limit : ℕ} {v : Verdict} (c : Checked) → (limit ≡ 0 → ⊥) → v ≡ verdict c → numberOf v ≡ refusal limit c
@@ -38,7 +38,7 @@ accepted highest memory ws {limit} e z =
     let h = limit-accepted limit (numberOf (verdict found)) (sym e ∙ z) in
     (h .0, found-not found 0 (fault-numbers highest memory ws) (omega arith) (h .1) .1)
 
-module _ (c : Chain) {limit n : ℕ} (answers log m : List ℕ) (e : n ≡ refusal limit (checked (c .highest) (length m) (c .words))) where
+module _ (c : Request) {limit n : ℕ} (answers log m : List ℕ) (e : n ≡ refusal limit (checked (c .highest) (length m) (c .words))) where
   pub refused-transacts : {p q : Progress} → (n ≡ 0 → ⊥) → p ≡ begun → q ≡ withNumber n p → Transacts c limit answers log m q log m
   unfolding outcome
   refused-transacts i b f =

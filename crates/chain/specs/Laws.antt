@@ -11,17 +11,17 @@ use Rattle.records.specs.Kinds.{kindOf}
 use Rattle.records.specs.Check.{any, checked}
 use Rattle.records.specs.Laws.{Alike}
 use Rattle.chain.specs.Chain.{recordSteps}
-use Rattle.chain.specs.Transaction.{Chain, refusal, outcome, transaction}
+use Rattle.chain.specs.Transaction.{Request, refusal, outcome, transaction}
 
 abbrev pub ChainAgain : Type 0
 ChainAgain =
-    (c : Chain) (limit limit' : ℕ) (answers more log m : List ℕ) → 0 < limit' → Ended (outcome c limit answers log m .number)
+    (c : Request) (limit limit' : ℕ) (answers more log m : List ℕ) → 0 < limit' → Ended (outcome c limit answers log m .number)
     → AgainCall limit' (outcome c limit answers log m) (outcome c limit' (answers ++ more) log m)
 
 -- A refusal touches neither log nor memory, and all counts are 0.
 abbrev pub ChainRefused : Type 0
 ChainRefused =
-    (c : Chain) (limit : ℕ) (answers log m : List ℕ) → let n = refusal limit (checked (c .highest) (length m) (c .words)) in
+    (c : Request) (limit : ℕ) (answers log m : List ℕ) → let n = refusal limit (checked (c .highest) (length m) (c .words)) in
     (n ≡ 0 → ⊥) → outcome c limit answers log m ≡ withNumber n (begun log m)
 
 -- A transaction never gives 2: kinds 1 to 5 set no mode.

@@ -6,22 +6,22 @@ use lib.ListN.{length}
 use Rattle.model.specs.State.{State, begun, advance}
 use Rattle.records.specs.Check.{field, checked, chainOf}
 use Rattle.chain.specs.Chain.{chainSteps}
-use Rattle.chain.specs.Transaction.{Chain, refusal, outcome}
+use Rattle.chain.specs.Transaction.{Request, refusal, outcome}
 
 -- the state that the first records of a chain leave
-unfoldable pub reached : Chain → ℕ → List ℕ → List ℕ → List ℕ → List (List ℕ) → State
+unfoldable pub reached : Request → ℕ → List ℕ → List ℕ → List ℕ → List (List ℕ) → State
 reached c limit answers log m rs = advance (chainSteps (c .rate) (c .qpi) rs) limit answers (begun log m)
 
 -- all of its records leave the outcome
 abbrev pub ReachesOutcome : Type 0
 ReachesOutcome =
-    (c : Chain) (limit : ℕ) (answers log m : List ℕ) → let found = checked (c .highest) (length m) (c .words) in
+    (c : Request) (limit : ℕ) (answers log m : List ℕ) → let found = checked (c .highest) (length m) (c .words) in
     refusal limit found ≡ 0 → outcome c limit answers log m ≡ reached c limit answers log m (chainOf found)
 
 -- record r, of this kind and behind these records, polls at most limit × waits times
 abbrev pub PollsAtMost : ℕ → (List ℕ → ℕ) → Type 0
 PollsAtMost kind waits =
-    (c : Chain) (limit : ℕ) (answers log m : List ℕ) (before : List (List ℕ)) (r : List ℕ) → field r 0 ≡ kind
+    (c : Request) (limit : ℕ) (answers log m : List ℕ) (before : List (List ℕ)) (r : List ℕ) → field r 0 ≡ kind
     → reached c limit answers log m (before ++ (r ∷ [])) .tally .polls ≤ reached c limit answers log m before .tally .polls + limit * waits r
 
 -- a write of n bytes limit × (n + 2), a read limit × (n + 1), a transfer both

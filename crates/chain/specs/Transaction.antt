@@ -16,21 +16,21 @@ refusal limit c = limitFirst limit (numberOf (verdict c))
 
 -- what is to be run: the words of all records, in which `checked` finds document 01's *chain*, the highest kind that is taken, the rate of the
 -- bus, and whether its chip has QPI
-pub record Chain : Type 0 where
+pub record Request : Type 0 where
   pub rate : ℕ
   pub qpi : Bool
   pub highest : ℕ
   pub words : List ℕ
 
 -- Number, counts, log and memory.
-unfoldable pub outcome : Chain → ℕ → List ℕ → List ℕ → List ℕ → State
+unfoldable pub outcome : Request → ℕ → List ℕ → List ℕ → List ℕ → State
 outcome c limit answers log m =
     let found = checked (c .highest) (length m) (c .words) in
     called (refusal limit found) (chainSteps (c .rate) (c .qpi) (chainOf found)) limit answers log m
 
-pub record Transacts (c : Chain) (limit : ℕ) (answers log m : List ℕ) (r : Progress) (log' m' : List ℕ) : Type 0 where
+pub record Transacts (c : Request) (limit : ℕ) (answers log m : List ℕ) (r : Progress) (log' m' : List ℕ) : Type 0 where
   pub state : stateOf r log' m' ≡ outcome c limit answers log m
 
 -- A transaction takes kinds 1 to 5, which neither the rate nor QPI matters to.
-abbrev pub transaction : List ℕ → Chain
+abbrev pub transaction : List ℕ → Request
 transaction words = record { rate = 0; qpi = false; highest = 5; words = words }

@@ -8,7 +8,7 @@ use Rattle.config.specs.declared.config.WorkModeFound.{WorkModeFound}
 use Rattle.bus.specs.Calls.{Call}
 use Rattle.bus.specs.Does.{Called, CalledOn}
 use Rattle.opening.specs.Call.{Releases}
-use Rattle.chain.specs.Transaction.{Chain, Transacts}
+use Rattle.chain.specs.Transaction.{Request, Transacts}
 use Rattle.sheet_run.specs.Run.{RunsSheet}
 use Rattle.counts.specs.Told.{Told}
 use Rattle.counts.proofs.States.{told-state}
@@ -35,7 +35,7 @@ module _ {answers log log' : List ℕ} {p : Progress} {number entries taken poll
   pub release-gives : {instance : ℕ} → Releases instance answers log p log' → GivesRelease instance answers log log' number entries taken polls longest
   release-gives d = record { state = λ limit m. told-state t log' m ∙ d .state limit m }
 
-  pub chain-gives : {c : Chain} {limit : ℕ} {m m' : List ℕ} → Transacts c limit answers log m p log' m'
+  pub chain-gives : {c : Request} {limit : ℕ} {m m' : List ℕ} → Transacts c limit answers log m p log' m'
       → GivesChain c limit answers log m log' m' number entries taken polls longest
   chain-gives {m' = m'} d = record { state = told-state t log' m' ∙ d .state }
 

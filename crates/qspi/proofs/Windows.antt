@@ -1,5 +1,4 @@
 -- The phases on a part of the memory are the phases on the whole, at the part's place.
-use mathlib.Core.Path.{_≡_}
 use mathlib.Core.Bool.{Bool}
 use mathlib.Core.List.{List, [], _∷_, _++_, map}
 use Prim.Native.Nat.{ℕ, zero, suc, pred, _+_, _≤_}

@@ -38,7 +38,7 @@ abbrev pub CallsRecount : Type 0
 CallsRecount = (call : bus.Call) (limit : ℕ) (answers log m : List ℕ) → Recounts (bus.outcome call limit answers log m)
 
 abbrev pub ChainsRecount : Type 0
-ChainsRecount = (c : chain.Chain) (limit : ℕ) (answers log m : List ℕ) → Recounts (chain.outcome c limit answers log m)
+ChainsRecount = (c : chain.Request) (limit : ℕ) (answers log m : List ℕ) → Recounts (chain.outcome c limit answers log m)
 
 abbrev pub SheetsRecount : Type 0
 SheetsRecount = (bs log : List ℕ) → Recounts (sheetOutcome (parse bs) log)

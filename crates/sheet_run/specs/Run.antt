@@ -7,13 +7,13 @@ use lib.ListN.{length, take}
 use Rattle.model.specs.State.{State, begun, withNumber, withMemory}
 use Rattle.access.specs.declared.progress.Progress.{Progress}
 use Rattle.access.specs.Of.{stateOf}
-use Rattle.chain.specs.Transaction.{Chain, outcome}
+use Rattle.chain.specs.Transaction.{Request, outcome}
 use Rattle.sheet.specs.declared.Header.{Header}
 use Rattle.sheet.specs.declared.Opened.{Opened}
 use Rattle.sheet.specs.Open.{opened, numberOf}
 use Rattle.sheet.specs.Sheet.{Sheet, Parsed, refused, sheet, parse}
 
-abbrev pub chainIn : Sheet → Chain
+abbrev pub chainIn : Sheet → Request
 chainIn s = record { rate = s .rate; qpi = eqb (s .qpi) 1; highest = 9; words = s .records }
 
 -- the header of bytes that are a sheet, and what it says of their number
