@@ -1,3 +1,4 @@
 pub mod Primitive
 pub mod Count
 pub mod Sequence
+pub mod Through

@@ -24,7 +24,7 @@ PollsAtMost kind waits =
     (c : Request) (limit : ℕ) (answers log m : List ℕ) (before : List (List ℕ)) (r : List ℕ) → field r 0 ≡ kind
     → reached c limit answers log m (before ++ (r ∷ [])) .tally .polls ≤ reached c limit answers log m before .tally .polls + limit * waits r
 
--- a write of n bytes limit × (n + 2), a read limit × (n + 1), a transfer both
+-- kinds 1, 2 and 3: a write of n bytes limit × (n + 2), a read limit × (n + 1), a transfer both
 pub record ChainPolls : Type 0 where
   pub write : PollsAtMost 1 (λ r. field r 2 + 2)
   pub read : PollsAtMost 2 (λ r. field r 2 + 1)

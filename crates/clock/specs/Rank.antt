@@ -25,5 +25,6 @@ lowest pll target (suc n) = min (lowest pll target n) (rank pll target n)
 unfoldable pub chosen : ℕ → ℕ → ℕ
 chosen pll target = lowest pll target 8_704 % 8_704
 
+-- document 01's choice: that it is what `Chosen` asks for is `ChoiceRight`
 abbrev pub choice : ℕ → ℕ → Choice
 choice pll target = candidate (chosen pll target)

@@ -5,7 +5,7 @@ use Prim.Native.Nat.{ℕ, suc, _+_, _-_, _≤_, _<_, min}
 use native.Mathlib.Omega.{arith}
 use native.Mathlib.Nat.{add-zero}
 use native.Mathlib.Numerals.{add-one}
-use lib.ListN.{length, getD, set, take, drop, drop-of-length-le, length-set, length-map, length-drop, length-take, length-append}
+use lib.ListN.{length, getD, set, take, drop, drop-of-length-le, length-set, length-map, length-drop}
 use lib.Seq.{drop-cons, drop-drop}
 use lib.Dec.{ltb}
 use borrow.Author.Tests.{ltb-true}
@@ -27,6 +27,7 @@ use Rattle.qspi.specs.Phases.Move.{sent}
 use Rattle.waits.specs.Does.{Waits}
 use Rattle.qspi.proofs.Paced.{portion, paced-wait, portion-part, take-sent, drop-sent, length-gots, take-gots, drop-gots, all-inside}
 use Rattle.access.proofs.Sequence.{part-length, runs-part}
+use Rattle.access.proofs.Through.{Through, through-more}
 
 -- sending with no wait, after i bytes
 pub record Sending (bytes : List ℕ) (p : Progress) (log : List ℕ) (r : Progress) (log' : List ℕ) (i : ℕ) : Type 0 where
@@ -179,20 +180,13 @@ unfolding paced
 writing-done {bytes} {answers} {limit} {r = r} {log' = log'} on h =
     record { sound = on .sound; state = λ m. sym (on .state m ∙ rw (drop-of-length-le bytes h) (ended limit answers (stateOf r log' m))) }
 
--- reading, after i bytes
-pub record Reading (buf : List ℕ) (limit : ℕ) (answers : List ℕ) (p : Progress) (log : List ℕ) (r : Progress) (log' buf' : List ℕ) (i : ℕ) : Type 0 where
-  pub same : length buf' ≡ length buf
-  pub within : i ≤ length buf
-  pub sound : Sound r
-  pub state :
-      advance (paced received 0 (gots 0 (length buf))) limit answers (stateOf p log buf)
-      ≡ advance (paced received 0 (gots i (length buf - i))) limit answers (stateOf r log' buf')
+-- reading n bytes to the memory from index `at` on
+abbrev pub reading : ℕ → ℕ → Steps
+reading at n = paced received 0 (gots at n)
 
-pub reading-starts : (buf : List ℕ) (limit : ℕ) (answers : List ℕ) (p : Progress) (log : List ℕ) → Sound p
-    → Reading buf limit answers p log p log buf 0
-reading-starts buf limit answers p log few =
-    let e : length buf - 0 ≡ length buf = omega arith in
-    record { same = refl; within = omega arith; sound = few; state = rw e refl }
+pub reading-ends : (at : ℕ) → reading at 0 ≡ end done
+unfolding paced gots
+reading-ends at = refl
 
 gots-portion : (i n k len : ℕ) → len ≡ min k (n - i)
     → then (movedAll (take (min k (length (gots i (n - i)))) (gots i (n - i)))) (paced received 0 (drop (min k (length (gots i (n - i)))) (gots i (n - i))))
@@ -210,7 +204,7 @@ portion-inside {limit} {answers} {t} {u} {log''} {log'''} {buf} {part'} i len h 
     runs-part (movedAll (gots i len)) (movedAll (gots 0 len)) i len h (rw add-zero at (all-inside i len 0 len (omega arith))) (rw l at (g .runs limit))
 
 module _ {buf buf' answers : List ℕ} {limit : ℕ} {p r t : Progress} {log log' log'' : List ℕ} {i count : ℕ}
-    (on : Reading buf limit answers p log r log' buf' i) (h : i < length buf) (w : Waits received limit answers r log' t log'' count) where
+    (on : Through reading buf limit answers p log r log' buf' i) (h : i < length buf) (w : Waits received limit answers r log' t log'' count) where
   more-left : 0 < length (gots i (length buf - i))
   more-left = rw length-gots (omega arith)
 
@@ -224,24 +218,10 @@ module _ {buf buf' answers : List ℕ} {limit : ℕ} {p r t : Progress} {log log
   pub reading-more : {u : Progress} {log''' part' : List ℕ} {len : ℕ} → t .number ≡ 0 → len ≡ min count (length buf - i)
       → length part' ≡ length (take len (drop i buf'))
       → Gets (movedAll (gots 0 (length (take len (drop i buf'))))) answers t log'' (take len (drop i buf')) u log''' part'
-      → Reading buf limit answers p log u log''' (take i buf' ++ (part' ++ drop len (drop i buf'))) (i + len)
-  reading-more {u} {log'''} {part'} {len} z e k g =
+      → Through reading buf limit answers p log u log''' (take i buf' ++ (part' ++ drop len (drop i buf'))) (i + len)
+  reading-more {part' = part'} {len = len} z e k g =
       let s = on .same in
-      let l = part-length i len buf' (omega arith) in
-      record {
-        same = simp (length-append, length-take, length-drop) (omega arith);
-        within = omega arith;
-        sound = g .sound;
-        state =
-            onto _ _ limit answers (stateOf t log'' buf')
-            (portion-goes received _ more-left limit answers _ _ (stateOf t log'' buf') count (on .state) (w .state buf') (some-count (λ _. refl) w z)
-            ∙ ap (λ s. advance s limit answers (stateOf t log'' buf')) (gots-portion i (length buf) count len e))
-            (portion-inside i len (omega arith) g .state);
-      }
-
-pub reading-done : {buf buf' answers : List ℕ} {limit : ℕ} {p r : Progress} {log log' : List ℕ} {i : ℕ} → Reading buf limit answers p log r log' buf' i
-    → length buf ≤ i → Runs (paced received 0 (gots 0 (length buf))) limit answers p log buf r log' buf'
-unfolding paced gots
-reading-done {buf} {answers = answers} {limit} {i = i} on h =
-    let e : length buf - i ≡ 0 = omega arith in
-    record { sound = on .sound; state = sym (on .state ∙ rw e (ended limit answers _)) }
+      through-more on part' len (omega arith) k
+      (portion-goes received _ more-left limit answers _ _ (stateOf t log'' buf') count (on .state) (w .state buf') (some-count (λ _. refl) w z)
+      ∙ ap (λ s. advance s limit answers (stateOf t log'' buf')) (gots-portion i (length buf) count len e))
+      (portion-inside i len (omega arith) g)

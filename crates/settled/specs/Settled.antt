@@ -89,10 +89,10 @@ settled =
     ∷ (quad 100_000_000 80 0 gives bytes 1)  -- P7
     ∷ (quad 100_000_000 81 0 gives bytes 2)  -- P8
     ∷ (quad 100_000_000 20_480 0 gives bytes 1)  -- P9
-    ∷ (quad 100_000_000 20_480 3 gives bytes 3)
+    ∷ (quad 100_000_000 20_480 3 gives bytes 3)  -- P9
     ∷ (quad 100_000_000 20_400 1 gives bytes 255)  -- P10
     ∷ (flush 3 (unready ∷ unready ∷ 0 ∷ []) gives ends 0 3 3 3 2)  -- P11
-    ∷ (flush 3 (unready ∷ unready ∷ unready ∷ 0 ∷ []) gives ends 1 3 3 3 3)
+    ∷ (flush 3 (unready ∷ unready ∷ unready ∷ 0 ∷ []) gives ends 1 3 3 3 3)  -- P11
     ∷ (sheet sample gives prints text)  -- P12
     ∷ []
 

@@ -4,20 +4,21 @@ use mathlib.Core.List.{List, _++_}
 use Prim.Native.Nat.{ℕ, zero, suc, _+_, _-_, _/_, _≤_, _<_, min}
 use native.Mathlib.Omega.{arith}
 use native.Mathlib.Nat.{add-zero, add-assoc}
-use lib.ListN.{length, take, drop, length-take, length-drop, length-append}
+use lib.ListN.{length, take, drop, length-drop}
 use lib.Seq.{take-length, take-append-seam, take-append-le, drop-append-le, drop-append-add}
 use Rattle.model.specs.Steps.{then}
 use Rattle.model.specs.State.{advance}
 use Rattle.model.specs.Frame.{Inside}
 use Rattle.model.specs.Steps.End.{done}
+use Rattle.model.specs.Steps.Steps.{end}
 use Rattle.model.specs.Frame.Inside.{ends, looks}
-use Rattle.model.proofs.Advance.{onto, ended, skipped}
 use Rattle.model.proofs.Frame.{then-inside}
 use Rattle.model.proofs.Next.{look-next}
 use Rattle.access.specs.declared.progress.Progress.{Progress}
 use Rattle.access.specs.Of.{stateOf}
-use Rattle.access.specs.Does.{Sound, Runs}
+use Rattle.access.specs.Does.{Runs}
 use Rattle.access.proofs.Sequence.{part-length, runs-part}
+use Rattle.access.proofs.Through.{Through, through-more}
 use Rattle.qspi.proofs.Windows.{tx-inside, rx-inside}
 use Rattle.transfer.specs.Transfer.{transferSteps, partSteps, parts, inPlaceSteps}
 
@@ -61,20 +62,9 @@ pub in-place-inside : (at n : ℕ) → Inside at n (inPlaceSteps at n) (inPlaceS
 unfolding inPlaceSteps
 in-place-inside at n = rw add-zero at (parts-inside ((n + 255) / 256) at n 0 n (omega arith))
 
--- exchanging, after i bytes
-pub record Exchanging (buf : List ℕ) (limit : ℕ) (answers : List ℕ) (p : Progress) (log : List ℕ) (r : Progress) (log' buf' : List ℕ) (i : ℕ) : Type 0 where
-  pub same : length buf' ≡ length buf
-  pub within : i ≤ length buf
-  pub sound : Sound r
-  pub state :
-      advance (inPlaceSteps 0 (length buf)) limit answers (stateOf p log buf)
-      ≡ advance (inPlaceSteps i (length buf - i)) limit answers (stateOf r log' buf')
-
-pub exchanging-starts : (buf : List ℕ) (limit : ℕ) (answers : List ℕ) (p : Progress) (log : List ℕ) → Sound p
-    → Exchanging buf limit answers p log p log buf 0
-exchanging-starts buf limit answers p log few =
-    let e : length buf - 0 ≡ length buf = omega arith in
-    record { same = refl; within = omega arith; sound = few; state = rw e refl }
+pub in-place-ends : (at : ℕ) → inPlaceSteps at 0 ≡ end done
+unfolding inPlaceSteps parts
+in-place-ends at = refl
 
 parts-next : (i n len : ℕ) → i < n → len ≡ min 256 (n - i)
     → inPlaceSteps i (n - i) ≡ then (partSteps i len) (inPlaceSteps (i + len) (n - (i + len)))
@@ -84,29 +74,15 @@ parts-next i n len h e =
     let g : (n - i + 255) / 256 ≡ suc ((n - (i + len) + 255) / 256) = omega arith in
     rw (g, ← e, f) refl
 
-module _ {buf buf' answers : List ℕ} {limit : ℕ} {p r : Progress} {log log' : List ℕ} {i : ℕ} (on : Exchanging buf limit answers p log r log' buf' i) where
-  pub exchanging-more : (len : ℕ) {t : Progress} {log'' part' : List ℕ} → i < length buf → len ≡ min 256 (length buf - i)
-      → length part' ≡ length (take len (drop i buf'))
-      → Runs (partSteps 0 (length (take len (drop i buf')))) limit answers r log' (take len (drop i buf')) t log'' part'
-      → Exchanging buf limit answers p log t log'' (take i buf' ++ (part' ++ drop len (drop i buf'))) (i + len)
-  exchanging-more len h e k f =
-      let s = on .same in
-      let l = part-length i len buf' (omega arith) in
-      record {
-        same = simp (length-append, length-take, length-drop) (omega arith);
-        within = omega arith;
-        sound = f .sound;
-        state =
-            onto _ _ limit answers (stateOf r log' buf')
-            (on .state ∙ ap (λ s. advance s limit answers (stateOf r log' buf')) (parts-next i (length buf) len h e))
-            (runs-part (partSteps i len) (partSteps 0 len) i len (omega arith) (rw add-zero at (part-inside i len 0 len (omega arith))) (rw l at f) .state);
-      }
-
-  pub exchanging-stops : (r .number ≡ 0 → ⊥) → Runs (inPlaceSteps 0 (length buf)) limit answers p log buf r log' buf'
-  exchanging-stops n = record { sound = on .sound; state = sym (on .state ∙ skipped _ limit answers _ n) }
-
-  pub exchanging-done : length buf ≤ i → Runs (inPlaceSteps 0 (length buf)) limit answers p log buf r log' buf'
-  unfolding inPlaceSteps parts
-  exchanging-done h =
-      let e : length buf - i ≡ 0 = omega arith in
-      record { sound = on .sound; state = sym (on .state ∙ rw e (ended limit answers _)) }
+-- the next part exchanged
+pub exchanging-more : {buf buf' answers : List ℕ} {limit : ℕ} {p r : Progress} {log log' : List ℕ} {i : ℕ}
+    → Through inPlaceSteps buf limit answers p log r log' buf' i → (len : ℕ) {t : Progress} {log'' part' : List ℕ} → i < length buf → len ≡ min 256 (length buf - i)
+    → length part' ≡ length (take len (drop i buf'))
+    → Runs (partSteps 0 (length (take len (drop i buf')))) limit answers r log' (take len (drop i buf')) t log'' part'
+    → Through inPlaceSteps buf limit answers p log t log'' (take i buf' ++ (part' ++ drop len (drop i buf'))) (i + len)
+exchanging-more {buf} {buf'} {answers} {limit} {r = r} {log' = log'} {i = i} on len {part' = part'} h e k f =
+    let s = on .same in
+    let l = part-length i len buf' (omega arith) in
+    through-more on part' len (omega arith) k
+    (on .state ∙ ap (λ s. advance s limit answers (stateOf r log' buf')) (parts-next i (length buf) len h e))
+    (runs-part (partSteps i len) (partSteps 0 len) i len (omega arith) (rw add-zero at (part-inside i len 0 len (omega arith))) (rw l at f))

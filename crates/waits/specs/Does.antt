@@ -12,7 +12,8 @@ use Rattle.access.specs.declared.progress.Progress.{Progress}
 use Rattle.access.specs.Of.{stateOf}
 use Rattle.access.specs.Does.{Sound}
 
--- A wait was done. What follows goes on with `count`, which is that of a ready word; without one it is 0, and the number is not 0.
+-- A wait was done. What follows goes on with `count`, which is that of a ready word; without one it is 0, and the number is not 0. That this
+-- holds for all that may follow, `k`, is what determines the count.
 pub record Waits (c : Cause) (limit : ℕ) (answers : List ℕ) (p : Progress) (log : List ℕ) (r : Progress) (log' : List ℕ) (count : ℕ) : Type 0 where
   pub sound : Sound r
   pub state : (m : List ℕ) (k : ℕ → Steps)

@@ -3,20 +3,22 @@ use Prim.Native.Nat.{_-_}
 use native.Mathlib.Omega.{arith}
 use native.Mathlib.Nat.{add-sub-cancel-left}
 use lib.ListN.{length}
-use Rattle.transfer.proofs.Parts.{Exchanging, exchanging-starts, exchanging-more, exchanging-stops, exchanging-done}
+use Rattle.transfer.specs.Transfer.{inPlaceSteps}
+use Rattle.access.proofs.Through.{Through, through-starts, through-stops, through-done}
+use Rattle.transfer.proofs.Parts.{in-place-ends, exchanging-more}
 use borrow.Author.Needs.{needs}
 use Rattle.transfer.proofs.transfer_in_place.Statement.{statement}
 use Rattle.transfer.proofs.transfer_in_place.Tie as tie
 
 abbrev Inv-loop : tie.InvT-loop
 Inv-loop limit log₀ answers words₀ current₀ idx₀ log words current idx =
-    (length log ≡ length log₀) × Exchanging words₀ limit answers current₀ log₀ current log words idx
+    (length log ≡ length log₀) × Through inPlaceSteps words₀ limit answers current₀ log₀ current log words idx
 
 abbrev μ-loop : tie.MeasureT-loop
 μ-loop limit log₀ answers words₀ current₀ idx₀ log words current idx = length words₀ - idx
 
 loop-holds : tie.Need-loop-holds Inv-loop μ-loop
-loop-holds c = (search needs, exchanging-starts _ _ _ _ _ (search needs))
+loop-holds c = (search needs, through-starts inPlaceSteps _ _ _ _ _ (search needs))
 
 sub-least : tie.Need-sub-least Inv-loop μ-loop
 sub-least c = search needs
@@ -53,7 +55,7 @@ returns c =
     let on = turn .before .loop .inv .1 in
     let more = exchanging-more on (portion .least .result) (omega (arith, turn .loop-test .taken, on .same)) (omega (arith, portion .least .ensures, on .same))
     (rw add-sub-cancel-left at (sent .transfer-part .kept .1 .1 .1 .1 .0)) (rw add-sub-cancel-left at (sent .transfer-part .ensures)) in
-    rw add-sub-cancel-left (exchanging-stops more (c .if1 .taken))
+    rw add-sub-cancel-left (through-stops more (c .if1 .taken))
 
 add-idx : tie.Need-add-idx Inv-loop μ-loop
 add-idx c = add-transfer-part (c .before .before .before .before .before .before .before)
@@ -83,7 +85,7 @@ same-length-4 : tie.Need-same-length-4 Inv-loop μ-loop
 same-length-4 c = search needs
 
 returns-2 : tie.Need-returns-2 Inv-loop μ-loop
-returns-2 c = exchanging-done (c .before .loop .inv .1) (search needs)
+returns-2 c = through-done (c .before .loop .inv .1) in-place-ends (search needs)
 
 pub transfer-in-place-spec : {M : Type 1} → statement M
 transfer-in-place-spec =

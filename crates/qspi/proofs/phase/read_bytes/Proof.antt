@@ -4,19 +4,20 @@ use native.Mathlib.Omega.{arith}
 use native.Mathlib.Nat.{add-sub-cancel-left}
 use borrow.Author.Needs.{needs}
 use lib.ListN.{length}
-use Rattle.qspi.proofs.Bytes.{Reading, reading-starts, reading-more, reading-stops, reading-done, some-count}
+use Rattle.access.proofs.Through.{Through, through-starts, through-done}
+use Rattle.qspi.proofs.Bytes.{reading, reading-ends, reading-more, reading-stops, some-count}
 use Rattle.qspi.proofs.phase.read_bytes.Statement.{statement}
 use Rattle.qspi.proofs.phase.read_bytes.Tie as tie
 
 abbrev Inv-loop : tie.InvT-loop
 Inv-loop limit log₀ answers buf₀ current₀ idx₀ log buf current idx =
-    (length log ≡ length log₀) × Reading buf₀ limit answers current₀ log₀ current log buf idx
+    (length log ≡ length log₀) × Through reading buf₀ limit answers current₀ log₀ current log buf idx
 
 abbrev μ-loop : tie.MeasureT-loop
 μ-loop limit log₀ answers buf₀ current₀ idx₀ log buf current idx = length buf₀ - idx
 
 loop-holds : tie.Need-loop-holds Inv-loop μ-loop
-loop-holds c = (search needs, reading-starts _ _ _ _ _ (search needs))
+loop-holds c = (search needs, through-starts reading _ _ _ _ _ (search needs))
 
 wait-requires : tie.Need-wait-requires Inv-loop μ-loop
 wait-requires c κs = search needs
@@ -96,7 +97,7 @@ same-length-4 : tie.Need-same-length-4 Inv-loop μ-loop
 same-length-4 c = search needs
 
 returns-2 : tie.Need-returns-2 Inv-loop μ-loop
-returns-2 c = reading-done (c .before .loop .inv .1) (search needs)
+returns-2 c = through-done (c .before .loop .inv .1) reading-ends (search needs)
 
 pub read-bytes-spec : {M : Type 1} → statement M
 read-bytes-spec =
