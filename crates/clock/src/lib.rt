@@ -91,7 +91,7 @@ fn cost_of(hz: u32, target: u32) -> u64
     }
 }
 
-fn lesser(a: u64, b: u64) -> u64
+fn least(a: u64, b: u64) -> u64
     ensures { λ r. ⌜ r ≡ min a b ⌝ }
 {
     if b < a { b } else { a }
@@ -145,7 +145,7 @@ pub fn select_clock(pll: u32, target: u32) -> Choice
                     break best;
                 }
                 let hz = clock / factor(place);
-                best = lesser(best, rank_of(hz, target, (m * PLACES + place) as u64));
+                best = least(best, rank_of(hz, target, (m * PLACES + place) as u64));
                 if best < CANDIDATES {
                     break 'modules best;
                 }

@@ -74,19 +74,22 @@ struct Extent {
     phase: bool,
 }
 
+// Is it start + length above the memory's length?
 fn outside(memory: usize, e: Extent) -> bool
     ensures { λ r. ⌜ r ≡ outsideOf memory e ⌝ }
 {
     memory < e.start as usize + e.size as usize
 }
 
+// Is its phase above FFFFFF hex bytes?
 fn too_long(e: Extent) -> bool
     ensures { λ r. ⌜ r ≡ tooLong e ⌝ }
 {
     if e.phase { 0xFFFFFF < e.size } else { false }
 }
 
-fn one_fault(memory: usize, a: Extent) -> u32
+// Of a record with one window: 9, then 6, else 0.
+fn window_fault(memory: usize, a: Extent) -> u32
     ensures { λ r. ⌜ r ≡ extentsFault memory (a ∷ []) ⌝ }
 {
     if outside(memory, a) {
@@ -98,7 +101,8 @@ fn one_fault(memory: usize, a: Extent) -> u32
     number::DONE
 }
 
-fn two_fault(memory: usize, a: Extent, b: Extent) -> u32
+// Of a record with two windows.
+fn two_windows_fault(memory: usize, a: Extent, b: Extent) -> u32
     ensures { λ r. ⌜ r ≡ extentsFault memory (a ∷ b ∷ []) ⌝ }
 {
     if outside(memory, a) {
@@ -116,36 +120,37 @@ fn two_fault(memory: usize, a: Extent, b: Extent) -> u32
     number::DONE
 }
 
+// Of a record: `untested` is the window f1 f2 whose length 6 does not test, `data` is f5 f6.
 fn windows_fault(r: [u32; 8], memory: usize) -> u32
     ensures { λ x. ⌜ x ≡ windowsFault memory r ⌝ }
 {
-    let phase = Extent {
+    let first = Extent {
         start: r[1],
         size: r[2],
         phase: true,
     };
-    let free = Extent {
+    let untested = Extent {
         start: r[1],
         size: r[2],
         phase: false,
     };
-    let sent = Extent {
+    let second = Extent {
         start: r[3],
         size: r[4],
         phase: true,
     };
-    let quad = Extent {
+    let data = Extent {
         start: r[5],
         size: r[6],
         phase: true,
     };
     match r[0] {
-        1 => one_fault(memory, phase),
-        2 => one_fault(memory, phase),
-        3 => two_fault(memory, phase, sent),
-        4 => one_fault(memory, free),
-        8 => two_fault(memory, free, quad),
-        9 => two_fault(memory, phase, quad),
+        1 => window_fault(memory, first),
+        2 => window_fault(memory, first),
+        3 => two_windows_fault(memory, first, second),
+        4 => window_fault(memory, untested),
+        8 => two_windows_fault(memory, untested, data),
+        9 => two_windows_fault(memory, first, data),
         _ => number::DONE,
     }
 }

@@ -62,8 +62,8 @@ cast-rank-of c = search needs
 rank-of-requires : tie.Need-rank-of-requires Inv-places μ-places Inv-modules μ-modules
 rank-of-requires c κs = search needs
 
-lesser-requires : tie.Need-lesser-requires Inv-places μ-places Inv-modules μ-modules
-lesser-requires c κs = search needs
+least-requires : tie.Need-least-requires Inv-places μ-places Inv-modules μ-modules
+least-requires c κs = search needs
 
 next-place-requires : tie.Need-next-place-requires Inv-places μ-places Inv-modules μ-modules
 next-place-requires c κs = inside (c .before .before .before .before)
@@ -79,14 +79,14 @@ places-less c = less-left (ahead c .0) (ahead c .1)
 
 places-again : tie.Need-places-again Inv-places μ-places Inv-modules μ-modules
 places-again c =
-    let lesser = c .before .before in
-    let divided = lesser .before .before in
+    let least = c .before .before in
+    let divided = least .before .before in
     let turn = divided .before in
     let at = turn .before in
     let eligible = sym (at .before .before .eligible .ensures) ∙ at .before .if2 .taken in
     let divisor = divided .factor .ensures in
-    let ranked = lesser .before .rank-of .ensures in
-    let more = place-more _ _ _ _ (inside turn) eligible (at .places .inv .1) divisor ranked (lesser .lesser .ensures) in
+    let ranked = least .before .rank-of .ensures in
+    let more = place-more _ _ _ _ (inside turn) eligible (at .places .inv .1) divisor ranked (least .least .ensures) in
     (ahead c .1, kind-passed _ _ _ _ (inside turn) eligible more divisor (c .next-place .ensures))
 
 add-m : tie.Need-add-m Inv-places μ-places Inv-modules μ-modules
@@ -148,7 +148,7 @@ select-clock-spec =
     add-rank-of
     cast-rank-of
     rank-of-requires
-    lesser-requires
+    least-requires
     next-place-requires
     places-less
     places-again

@@ -31,47 +31,47 @@ array-read-t13-4 c = search needs
 array-read-match-5 : tie.Need-array-read-match-5
 array-read-match-5 c = search needs
 
-one-fault-requires : tie.Need-one-fault-requires
-one-fault-requires c κs = search needs
+window-fault-requires : tie.Need-window-fault-requires
+window-fault-requires c κs = search needs
 
-one-fault-requires-2 : tie.Need-one-fault-requires-2
-one-fault-requires-2 c κs = search needs
+window-fault-requires-2 : tie.Need-window-fault-requires-2
+window-fault-requires-2 c κs = search needs
 
-two-fault-requires : tie.Need-two-fault-requires
-two-fault-requires c κs = search needs
+two-windows-fault-requires : tie.Need-two-windows-fault-requires
+two-windows-fault-requires c κs = search needs
 
-one-fault-requires-3 : tie.Need-one-fault-requires-3
-one-fault-requires-3 c κs = search needs
+window-fault-requires-3 : tie.Need-window-fault-requires-3
+window-fault-requires-3 c κs = search needs
 
-two-fault-requires-2 : tie.Need-two-fault-requires-2
-two-fault-requires-2 c κs = search needs
+two-windows-fault-requires-2 : tie.Need-two-windows-fault-requires-2
+two-windows-fault-requires-2 c κs = search needs
 
-two-fault-requires-3 : tie.Need-two-fault-requires-3
-two-fault-requires-3 c κs = search needs
+two-windows-fault-requires-3 : tie.Need-two-windows-fault-requires-3
+two-windows-fault-requires-3 c κs = search needs
 
 returns : tie.Need-returns
 unfolding windowsFault
-returns c = simp (c .before .match .keys1) (c .one-fault .ensures)
+returns c = simp (c .before .match .keys1) (c .window-fault .ensures)
 
 returns-2 : tie.Need-returns-2
 unfolding windowsFault
-returns-2 c = simp (c .before .match .keys2) (c .one-fault2 .ensures)
+returns-2 c = simp (c .before .match .keys2) (c .window-fault2 .ensures)
 
 returns-3 : tie.Need-returns-3
 unfolding windowsFault
-returns-3 c = simp (c .before .match .keys3) (c .two-fault .ensures)
+returns-3 c = simp (c .before .match .keys3) (c .two-windows-fault .ensures)
 
 returns-4 : tie.Need-returns-4
 unfolding windowsFault
-returns-4 c = simp (c .before .match .keys4) (c .one-fault3 .ensures)
+returns-4 c = simp (c .before .match .keys4) (c .window-fault3 .ensures)
 
 returns-5 : tie.Need-returns-5
 unfolding windowsFault
-returns-5 c = simp (c .before .match .keys5) (c .two-fault2 .ensures)
+returns-5 c = simp (c .before .match .keys5) (c .two-windows-fault2 .ensures)
 
 returns-6 : tie.Need-returns-6
 unfolding windowsFault
-returns-6 c = simp (c .before .match .keys6) (c .two-fault3 .ensures)
+returns-6 c = simp (c .before .match .keys6) (c .two-windows-fault3 .ensures)
 
 returns-7 : tie.Need-returns-7
 unfolding windowsFault extentsFault
@@ -92,12 +92,12 @@ windows-fault-spec =
     array-read-match-4
     array-read-t13-4
     array-read-match-5
-    one-fault-requires
-    one-fault-requires-2
-    two-fault-requires
-    one-fault-requires-3
-    two-fault-requires-2
-    two-fault-requires-3
+    window-fault-requires
+    window-fault-requires-2
+    two-windows-fault-requires
+    window-fault-requires-3
+    two-windows-fault-requires-2
+    two-windows-fault-requires-3
     returns
     returns-2
     returns-3

@@ -1,8 +1,8 @@
 use mathlib.Core.Path.{sym, _∙_}
 use Rattle.records.specs.Check.{extentsFault}
 use borrow.Author.Needs.{needs}
-use Rattle.records.proofs.two_fault.Statement.{statement}
-use Rattle.records.proofs.two_fault.Tie as tie
+use Rattle.records.proofs.two_windows_fault.Statement.{statement}
+use Rattle.records.proofs.two_windows_fault.Tie as tie
 
 outside-requires : tie.Need-outside-requires
 outside-requires c κs = search needs
@@ -59,8 +59,8 @@ returns-5 c =
       sym (c .before .too-long2 .ensures) ∙ c .if4 .left,
     )
 
-pub two-fault-spec : {M : Type 1} → statement M
-two-fault-spec =
+pub two-windows-fault-spec : {M : Type 1} → statement M
+two-windows-fault-spec =
     tie.close
     (tie.spec
     outside-requires
