@@ -2,7 +2,8 @@
 ghost use Prim.Native.Nat.{_≤_, _<_};
 ghost use lib.ListN.{length};
 ghost use Rattle.io.specs.Counts.{Counts};
-use std::num::wrapping_add_u64;
+use verdicts::Tally;
+use verdicts::Verdict;
 
 mod call;
 mod fields;
@@ -11,127 +12,20 @@ mod quad_call;
 mod text;
 mod value;
 
-// What the comparison of a case found.
-enum Verdict {
-    Same,
-    // The oracle has no such answer, and the library refuses the call.
-    Excluded,
-    Different,
-}
-
-// How many cases were compared, excluded and different; `first` is the number of the first that differs, from 1, or 0.
-struct Tally {
-    replayed: u64,
-    excluded: u64,
-    differ: u64,
-    first: u64,
-}
-
-impl Tally {
-    fn counted(self, verdict: Verdict) -> Tally {
-        let mut next = self;
-        match verdict {
-            Verdict::Same => {
-                next.replayed = wrapping_add_u64(self.replayed, 1);
-            }
-            Verdict::Excluded => {
-                next.excluded = wrapping_add_u64(self.excluded, 1);
-            }
-            Verdict::Different => {
-                next.replayed = wrapping_add_u64(self.replayed, 1);
-                next.differ = wrapping_add_u64(self.differ, 1);
-                if self.first == 0 {
-                    next.first = wrapping_add_u64(next.replayed, self.excluded);
-                }
-            }
-        }
-        next
+// The first difference, if there is one, and the counts.
+fn report(tally: Tally) {
+    let first = tally.first;
+    if first > 0 {
+        io::write_all(1, b"first difference: case ");
+        io::print_decimal(1, first);
+        io::write_all(1, b"\n");
     }
-
-    fn report(self) {
-        if self.first > 0 {
-            io::write_all(1, b"first difference: case ");
-            io::print_decimal(1, self.first);
-            io::write_all(1, b"\n");
-        }
-        io::print_decimal(1, self.replayed);
-        io::write_all(1, b" replayed, ");
-        io::print_decimal(1, self.excluded);
-        io::write_all(1, b" excluded, ");
-        io::print_decimal(1, self.differ);
-        io::write_all(1, b" differ\n");
-    }
-}
-
-// A line that only the oracle has: the Rust panics, or has no form for the case.
-fn oracles_own_line(line: &[u8]) -> bool {
-    if cases::same(line, b"refused") {
-        return true;
-    }
-    if cases::same(line, b"none") {
-        return true;
-    }
-    if line.len() < 6 {
-        return false;
-    }
-    cases::same(&line[..6], b"panic ")
-}
-
-fn has_oracles_own_line(answer: &[u8]) -> bool {
-    let mut at: usize = 0;
-    while at < answer.len() {
-        let end = bytes::scan::find(answer, at, answer.len(), b'\n');
-        if oracles_own_line(&answer[at..end]) {
-            return true;
-        }
-        if end == answer.len() {
-            return false;
-        }
-        at = end + 1;
-    }
-    false
-}
-
-// An end line with one of the numbers of a refusal and all counts 0.
-fn refusal_line(line: &[u8]) -> bool {
-    if line.len() < 13 {
-        return false;
-    }
-    let digits = line.len() - 8;
-    if !cases::same(&line[..4], b"end ") {
-        return false;
-    }
-    if !cases::same(&line[digits..], b" 0 0 0 0") {
-        return false;
-    }
-    let number = cases::number(&line[4..digits]);
-    number >= 3 && number <= 9 || number == 13
-}
-
-// A refused call: no entry, and no byte another. A refused opening has no rate, refused dividers no rate.
-fn is_refusal(answer: &[u8]) -> bool {
-    if cases::same(answer, b"sck 12 0\n") {
-        return true;
-    }
-    let line = bytes::scan::find(answer, 0, answer.len(), b'\n');
-    if !refusal_line(&answer[..line]) {
-        return false;
-    }
-    if cases::same(&answer[line..], b"\n") {
-        return true;
-    }
-    cases::same(&answer[line..], b"\nrate 0\n")
-}
-
-// What the oracle answered against what the library did.
-fn judge(oracle: &[u8], library: &[u8]) -> Verdict {
-    if cases::same(oracle, library) {
-        return Verdict::Same;
-    }
-    if has_oracles_own_line(oracle) && is_refusal(library) {
-        return Verdict::Excluded;
-    }
-    Verdict::Different
+    io::print_decimal(1, tally.replayed);
+    io::write_all(1, b" replayed, ");
+    io::print_decimal(1, tally.excluded);
+    io::write_all(1, b" excluded, ");
+    io::print_decimal(1, tally.differ);
+    io::write_all(1, b" differ\n");
 }
 
 // Writes the lines of the library's answer to a case, and answers how many bytes they take; 0 for what is no case.
@@ -168,7 +62,7 @@ fn replay(case: &[u8]) -> Verdict {
         return Verdict::Different;
     }
     let from = line + 1;
-    judge(&case[from..], &out[..length])
+    verdicts::judge(&case[from..], &out[..length])
 }
 
 // The tally after some cases, and the bytes that they take.
@@ -245,12 +139,7 @@ fn turns_left(turns: u32, found: bool) -> u32
 // The cases of standard input, piece by piece. What is left and is no whole case is a difference.
 fn replay_input(text: &mut [u8]) -> Tally {
     let mut have: usize = 0;
-    let mut tally = Tally {
-        replayed: 0,
-        excluded: 0,
-        differ: 0,
-        first: 0,
-    };
+    let mut tally = Tally::new();
     let mut turns: u32 = 1_000_000;
     while turns > 0 {
         let left = replay_piece(text, have, tally);
@@ -266,5 +155,5 @@ fn replay_input(text: &mut [u8]) -> Tally {
 
 fn main() {
     let mut text = [0u8; 65536];
-    replay_input(&mut text).report();
+    report(replay_input(&mut text));
 }

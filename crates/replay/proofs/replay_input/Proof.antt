@@ -11,6 +11,9 @@ Inv-loop text₀ have₀ tally₀ turns₀ text have tally turns = (have ≤ len
 abbrev μ-loop : tie.MeasureT-loop
 μ-loop text₀ have₀ tally₀ turns₀ text have tally turns = turns
 
+new-requires : tie.Need-new-requires Inv-loop μ-loop
+new-requires c κs = search needs
+
 loop-holds : tie.Need-loop-holds Inv-loop μ-loop
 loop-holds c = search needs
 
@@ -47,6 +50,7 @@ replay-input-spec =
     (tie.spec
     Inv-loop
     μ-loop
+    new-requires
     loop-holds
     replay-piece-requires
     turns-left-requires

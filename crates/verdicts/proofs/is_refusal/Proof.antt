@@ -1,8 +1,11 @@
 use lib.ListN.{length-take}
+use mathlib.Core.Path.{sym, _∙_}
 use native.Mathlib.Omega.{arith}
 use borrow.Author.Needs.{needs}
-use Rattle.replay.proofs.is_refusal.Statement.{statement}
-use Rattle.replay.proofs.is_refusal.Tie as tie
+use borrow.Author.Tests.{not-true, not-false}
+use Rattle.verdicts.proofs.Laws.{refused-sck, refused-not, refused-alone, refused-rate}
+use Rattle.verdicts.proofs.is_refusal.Statement.{statement}
+use Rattle.verdicts.proofs.is_refusal.Tie as tie
 
 slice-aggregate-same : tie.Need-slice-aggregate-same
 slice-aggregate-same c = search needs
@@ -11,7 +14,7 @@ same-requires : tie.Need-same-requires
 same-requires c κs = search needs
 
 returns : tie.Need-returns
-returns c = search needs
+returns c = sym (refused-sck _ (sym (c .before .same .ensures) ∙ c .if1 .taken))
 
 find-requires : tie.Need-find-requires
 find-requires c κs = search needs
@@ -23,7 +26,9 @@ refusal-line-requires : tie.Need-refusal-line-requires
 refusal-line-requires c κs = search needs
 
 returns-2 : tie.Need-returns-2
-returns-2 c = search needs
+returns-2 c =
+    let f = c .before .before .before in
+    sym (refused-not _ _ (f .find .ensures .0) (sym (f .before .before .same .ensures) ∙ f .before .if1 .left) (sym (c .before .refusal-line .ensures) ∙ not-true _ (c .if2 .taken)))
 
 sub-same : tie.Need-sub-same
 sub-same c = search needs
@@ -41,7 +46,11 @@ same-requires-2 : tie.Need-same-requires-2
 same-requires-2 c κs = search needs
 
 returns-3 : tie.Need-returns-3
-returns-3 c = search needs
+returns-3 c =
+    let n = c .before .before .before .before in
+    let f = n .before .before .before in
+    sym (refused-alone _ _ (f .find .ensures .0) (sym (f .before .before .same .ensures) ∙ f .before .if1 .left) (sym (n .before .refusal-line .ensures) ∙ not-false _ (n .if2 .left))
+    (sym (c .before .same2 .ensures) ∙ c .if3 .taken))
 
 sub-same-2 : tie.Need-sub-same-2
 sub-same-2 c = search needs
@@ -59,7 +68,13 @@ same-requires-3 : tie.Need-same-requires-3
 same-requires-3 c κs = search needs
 
 returns-4 : tie.Need-returns-4
-returns-4 c = search needs
+returns-4 c =
+    let s = c .before .before .before in
+    let n = s .before .before .before .before in
+    let f = n .before .before .before in
+    c .same3 .ensures
+    ∙ sym (refused-rate _ _ (f .find .ensures .0) (sym (f .before .before .same .ensures) ∙ f .before .if1 .left) (sym (n .before .refusal-line .ensures) ∙ not-false _ (n .if2 .left))
+    (sym (s .before .same2 .ensures) ∙ s .if3 .left))
 
 pub is-refusal-spec : {M : Type 1} → statement M
 is-refusal-spec =
