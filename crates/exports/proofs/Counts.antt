@@ -1,45 +1,29 @@
 -- A call's promise, from that of the call below and the counts told.
-use mathlib.Core.Path.{_∙_}
+use mathlib.Core.Path.{_≡_, _∙_, ap}
 use mathlib.Core.Bool.{Bool}
 use mathlib.Core.List.{List}
 use Prim.Native.Nat.{ℕ}
+use Rattle.model.specs.State.{State}
+use Rattle.access.specs.Of.{stateOf}
 use Rattle.access.specs.declared.progress.Progress.{Progress}
-use Rattle.config.specs.declared.config.WorkModeFound.{WorkModeFound}
-use Rattle.bus.specs.Calls.{Call}
-use Rattle.bus.specs.Does.{Called, CalledOn}
-use Rattle.opening.specs.Call.{Releases}
-use Rattle.chain.specs.Transaction.{Request, Transacts}
-use Rattle.sheet_run.specs.Run.{RunsSheet}
+use Rattle.config_numbers.specs.declared.ConfigFound.{ConfigFound}
+use Rattle.opening.specs.declared.ClockTree.{ClockTree}
+use Rattle.opening.specs.declared.Opened.{Opened}
 use Rattle.counts.specs.Told.{Told}
 use Rattle.counts.proofs.States.{told-state}
-use Rattle.numbered.specs.Calls.{CalledMode}
-use Rattle.exports.specs.Calls.{Gives, GivesOn, GivesMode}
-use Rattle.exports.specs.Opening.{GivesRelease}
-use Rattle.exports.specs.Transactions.{GivesChain}
-use Rattle.exports.specs.Sheets.{GivesSheet}
+use Rattle.numbered.specs.Calls.{OpensFound}
+use Rattle.exports.specs.Calls.{Gives, GivesOn, GivesOpening}
 
-module _ {answers log log' : List ℕ} {p : Progress} {number entries taken polls longest : ℕ}
-    (t : Told p number entries taken polls longest) where
-  pub called-gives : {call : Call} {limit : ℕ} → Called call limit answers log p log'
-      → Gives call limit answers log log' number entries taken polls longest
-  called-gives d = record { state = λ m. told-state t log' m ∙ d .state m }
+module _ {log' : List ℕ} {p : Progress} {number entries taken polls longest : ℕ} (t : Told p number entries taken polls longest) where
+  pub gives : {outcome : List ℕ → State} → ((m : List ℕ) → stateOf p log' m ≡ outcome m) → Gives outcome log' number entries taken polls longest
+  gives d = record { state = λ m. told-state t log' m ∙ d m }
 
-  pub called-gives-on : {call : Call} {limit : ℕ} {m m' : List ℕ} → CalledOn call limit answers log m p log' m'
-      → GivesOn call limit answers log m log' m' number entries taken polls longest
-  called-gives-on {m' = m'} d = record { state = told-state t log' m' ∙ d .state }
+  pub gives-on : {outcome : State} {m' : List ℕ} → stateOf p log' m' ≡ outcome → GivesOn outcome log' m' number entries taken polls longest
+  gives-on {m' = m'} d = record { state = told-state t log' m' ∙ d }
 
-  pub mode-gives : {mode : WorkModeFound} {qpi : Bool} {limit : ℕ} → CalledMode mode qpi limit answers log p log'
-      → GivesMode mode qpi limit answers log log' number entries taken polls longest
-  mode-gives d = record { state = λ m. told-state t log' m ∙ d .state m }
-
-  pub release-gives : {instance : ℕ} → Releases instance answers log p log' → GivesRelease instance answers log log' number entries taken polls longest
-  release-gives d = record { state = λ limit m. told-state t log' m ∙ d .state limit m }
-
-  pub chain-gives : {c : Request} {limit : ℕ} {m m' : List ℕ} → Transacts c limit answers log m p log' m'
-      → GivesChain c limit answers log m log' m' number entries taken polls longest
-  chain-gives {m' = m'} d = record { state = told-state t log' m' ∙ d .state }
-
-pub sheet-gives : {bs log log' bs' : List ℕ} {p : Progress} {number entries taken polls longest : ℕ}
-    → Told p number entries taken polls longest → RunsSheet bs log p log' bs'
-    → GivesSheet bs log log' bs' number entries taken polls longest
-sheet-gives {log' = log'} {bs' = bs'} t d = record { state = told-state t log' bs' ∙ d .state }
+pub opening-gives : {found : ConfigFound} {instance : ℕ} {qpi : Bool} {tree : ClockTree} {limit : ℕ} {answers log log' : List ℕ}
+    {r : Opened} {number entries taken polls longest : ℕ} → Told (r .progress) number entries taken polls longest
+    → OpensFound found instance qpi tree limit answers log r log'
+    → GivesOpening found instance qpi tree limit answers log log' (r .«sck_hz») number entries taken polls longest
+opening-gives {log' = log'} {r = r} t d =
+    record { result = λ m. ap (λ st. record { state = st; rate = r .«sck_hz» }) (told-state t log' m) ∙ d .result m }

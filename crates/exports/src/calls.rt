@@ -1,7 +1,8 @@
 // The calls of the bus. Each gives its number and writes its four counts: entries made, answers taken, polls, longest.
-ghost use Rattle.bus.specs.Calls.{Call};
+ghost use Rattle.bus.specs.Calls.{Call, outcome};
 ghost use Rattle.config.specs.Config.{workModeOf};
-ghost use Rattle.exports.specs.Calls.{Gives, GivesOn, GivesMode};
+ghost use Rattle.numbered.specs.Calls.{modeOutcome};
+ghost use Rattle.exports.specs.Calls.{Gives, GivesOn};
 ghost use lib.ListN.{length};
 use counts::tell;
 
@@ -17,7 +18,7 @@ pub extern "C" fn qspi_write(
     polls: &mut usize,
     longest: &mut u32,
 ) -> u32
-    ensures { λ r. ⌜ Gives (Call.write (now (bytes .entry))) limit (now (answers .entry)) (now (log .entry)) (now (log .exit)) r (now (entries .exit)) (now (taken .exit)) (now (polls .exit)) (now (longest .exit)) ⌝ }
+    ensures { λ r. ⌜ Gives (outcome (Call.write (now (bytes .entry))) limit (now (answers .entry)) (now (log .entry))) (now (log .exit)) r (now (entries .exit)) (now (taken .exit)) (now (polls .exit)) (now (longest .exit)) ⌝ }
 {
     let p = bus::spi_bus::write(limit, log, answers, bytes);
     tell(p, entries, taken, polls, longest)
@@ -35,7 +36,7 @@ pub extern "C" fn qspi_read(
     polls: &mut usize,
     longest: &mut u32,
 ) -> u32
-    ensures { λ r. ⌜ GivesOn (Call.read (length (now (bytes .entry)))) limit (now (answers .entry)) (now (log .entry)) (now (bytes .entry)) (now (log .exit)) (now (bytes .exit)) r (now (entries .exit)) (now (taken .exit)) (now (polls .exit)) (now (longest .exit)) ⌝ }
+    ensures { λ r. ⌜ GivesOn (outcome (Call.read (length (now (bytes .entry)))) limit (now (answers .entry)) (now (log .entry)) (now (bytes .entry))) (now (log .exit)) (now (bytes .exit)) r (now (entries .exit)) (now (taken .exit)) (now (polls .exit)) (now (longest .exit)) ⌝ }
 {
     let p = bus::spi_bus::read(limit, log, answers, bytes);
     tell(p, entries, taken, polls, longest)
@@ -54,7 +55,7 @@ pub extern "C" fn qspi_transfer(
     polls: &mut usize,
     longest: &mut u32,
 ) -> u32
-    ensures { λ r. ⌜ GivesOn (Call.transfer (now (write .entry)) (length (now (read .entry)))) limit (now (answers .entry)) (now (log .entry)) (now (read .entry)) (now (log .exit)) (now (read .exit)) r (now (entries .exit)) (now (taken .exit)) (now (polls .exit)) (now (longest .exit)) ⌝ }
+    ensures { λ r. ⌜ GivesOn (outcome (Call.transfer (now (write .entry)) (length (now (read .entry)))) limit (now (answers .entry)) (now (log .entry)) (now (read .entry))) (now (log .exit)) (now (read .exit)) r (now (entries .exit)) (now (taken .exit)) (now (polls .exit)) (now (longest .exit)) ⌝ }
 {
     let p = bus::spi_bus::transfer(limit, log, answers, read, write);
     tell(p, entries, taken, polls, longest)
@@ -71,7 +72,7 @@ pub extern "C" fn qspi_flush(
     polls: &mut usize,
     longest: &mut u32,
 ) -> u32
-    ensures { λ r. ⌜ Gives Call.flush limit (now (answers .entry)) (now (log .entry)) (now (log .exit)) r (now (entries .exit)) (now (taken .exit)) (now (polls .exit)) (now (longest .exit)) ⌝ }
+    ensures { λ r. ⌜ Gives (outcome Call.flush limit (now (answers .entry)) (now (log .entry))) (now (log .exit)) r (now (entries .exit)) (now (taken .exit)) (now (polls .exit)) (now (longest .exit)) ⌝ }
 {
     let p = bus::spi_bus::flush(limit, log, answers);
     tell(p, entries, taken, polls, longest)
@@ -89,7 +90,7 @@ pub extern "C" fn qspi_transfer_in_place(
     polls: &mut usize,
     longest: &mut u32,
 ) -> u32
-    ensures { λ r. ⌜ GivesOn (Call.transferInPlace (length (now (bytes .entry)))) limit (now (answers .entry)) (now (log .entry)) (now (bytes .entry)) (now (log .exit)) (now (bytes .exit)) r (now (entries .exit)) (now (taken .exit)) (now (polls .exit)) (now (longest .exit)) ⌝ }
+    ensures { λ r. ⌜ GivesOn (outcome (Call.transferInPlace (length (now (bytes .entry)))) limit (now (answers .entry)) (now (log .entry)) (now (bytes .entry))) (now (log .exit)) (now (bytes .exit)) r (now (entries .exit)) (now (taken .exit)) (now (polls .exit)) (now (longest .exit)) ⌝ }
 {
     let p = bus::spi_bus::transfer_in_place(limit, log, answers, bytes);
     tell(p, entries, taken, polls, longest)
@@ -111,7 +112,7 @@ pub extern "C" fn qspi_read_quad(
     polls: &mut usize,
     longest: &mut u32,
 ) -> u32
-    ensures { λ r. ⌜ GivesOn (Call.readQuad hz (now (command .entry)) «tclqv_ns» margin (length (now («data» .entry)))) limit (now (answers .entry)) (now (log .entry)) (now («data» .entry)) (now (log .exit)) (now («data» .exit)) r (now (entries .exit)) (now (taken .exit)) (now (polls .exit)) (now (longest .exit)) ⌝ }
+    ensures { λ r. ⌜ GivesOn (outcome (Call.readQuad hz (now (command .entry)) «tclqv_ns» margin (length (now («data» .entry)))) limit (now (answers .entry)) (now (log .entry)) (now («data» .entry))) (now (log .exit)) (now («data» .exit)) r (now (entries .exit)) (now (taken .exit)) (now (polls .exit)) (now (longest .exit)) ⌝ }
 {
     let p = bus::quad_spi_bus::read_quad(limit, log, answers, hz, command, tclqv_ns, margin, data);
     tell(p, entries, taken, polls, longest)
@@ -130,7 +131,7 @@ pub extern "C" fn qspi_write_quad(
     polls: &mut usize,
     longest: &mut u32,
 ) -> u32
-    ensures { λ r. ⌜ Gives (Call.writeQuad (now (command .entry)) (now («data» .entry))) limit (now (answers .entry)) (now (log .entry)) (now (log .exit)) r (now (entries .exit)) (now (taken .exit)) (now (polls .exit)) (now (longest .exit)) ⌝ }
+    ensures { λ r. ⌜ Gives (outcome (Call.writeQuad (now (command .entry)) (now («data» .entry))) limit (now (answers .entry)) (now (log .entry))) (now (log .exit)) r (now (entries .exit)) (now (taken .exit)) (now (polls .exit)) (now (longest .exit)) ⌝ }
 {
     let p = bus::quad_spi_bus::write_quad(limit, log, answers, command, data);
     tell(p, entries, taken, polls, longest)
@@ -149,7 +150,7 @@ pub extern "C" fn qspi_set_work_mode(
     polls: &mut usize,
     longest: &mut u32,
 ) -> u32
-    ensures { λ r. ⌜ GivesMode (workModeOf mode) qpi limit (now (answers .entry)) (now (log .entry)) (now (log .exit)) r (now (entries .exit)) (now (taken .exit)) (now (polls .exit)) (now (longest .exit)) ⌝ }
+    ensures { λ r. ⌜ Gives (modeOutcome (workModeOf mode) qpi limit (now (answers .entry)) (now (log .entry))) (now (log .exit)) r (now (entries .exit)) (now (taken .exit)) (now (polls .exit)) (now (longest .exit)) ⌝ }
 {
     let p = numbered::set_numbered_mode(limit, qpi, log, answers, mode);
     tell(p, entries, taken, polls, longest)

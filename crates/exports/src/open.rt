@@ -1,7 +1,9 @@
 // Opening and release of a bus, whose configuration is numbers.
 ghost use Rattle.config.specs.Config.{workModeOf};
 ghost use Rattle.config_numbers.specs.Settings.{ctrlModeOf, csOf, modeOf, configOf};
-ghost use Rattle.exports.specs.Opening.{GivesOpening, GivesRelease};
+ghost use Rattle.opening.specs.Call.{releases};
+ghost use Rattle.exports.specs.Calls.{Gives, GivesOpening};
+ghost use Prim.Native.Nat.{ℕ};
 use counts::tell;
 
 // Opens the bus of an instance and writes its rate, which is 0 unless the number is 0. `qpi`: the chip has QPI; `work_mode`: its number.
@@ -51,7 +53,7 @@ pub extern "C" fn qspi_open(
     tell(opened.progress, entries, taken, polls, longest)
 }
 
-// Disables the clock of an instance and resets its module.
+// Disables the clock of an instance and resets its module. It has no wait: its contract holds at every limit.
 #[no_mangle]
 pub extern "C" fn qspi_free(
     log: &mut [u32],
@@ -62,7 +64,7 @@ pub extern "C" fn qspi_free(
     polls: &mut usize,
     longest: &mut u32,
 ) -> u32
-    ensures { λ r. ⌜ GivesRelease instance (now (answers .entry)) (now (log .entry)) (now (log .exit)) r (now (entries .exit)) (now (taken .exit)) (now (polls .exit)) (now (longest .exit)) ⌝ }
+    ensures { λ r. ⌜ ((limit : ℕ) → Gives (releases instance limit (now (answers .entry)) (now (log .entry))) (now (log .exit)) r (now (entries .exit)) (now (taken .exit)) (now (polls .exit)) (now (longest .exit))) ⌝ }
 {
     let p = opening::free(instance, log, answers);
     tell(p, entries, taken, polls, longest)

@@ -1,5 +1,6 @@
 // Sheets.
-ghost use Rattle.exports.specs.Sheets.{GivesSheet};
+ghost use Rattle.sheet_run.specs.Run.{sheetState};
+ghost use Rattle.exports.specs.Calls.{GivesOn};
 use counts::tell;
 
 // Runs the sheet that the bytes are, on the memory at their end; any other bytes are refused as 13.
@@ -12,7 +13,7 @@ pub extern "C" fn qspi_sheet(
     polls: &mut usize,
     longest: &mut u32,
 ) -> u32
-    ensures { λ r. ⌜ GivesSheet (now (bytes .entry)) (now (log .entry)) (now (log .exit)) (now (bytes .exit)) r (now (entries .exit)) (now (taken .exit)) (now (polls .exit)) (now (longest .exit)) ⌝ }
+    ensures { λ r. ⌜ GivesOn (sheetState (now (bytes .entry)) (now (log .entry))) (now (log .exit)) (now (bytes .exit)) r (now (entries .exit)) (now (taken .exit)) (now (polls .exit)) (now (longest .exit)) ⌝ }
 {
     let p = sheet_run::run(bytes, log);
     tell(p, entries, taken, polls, longest)

@@ -1,6 +1,6 @@
 // Transactions.
-ghost use Rattle.chain.specs.Transaction.{transaction};
-ghost use Rattle.exports.specs.Transactions.{GivesChain};
+ghost use Rattle.chain.specs.Transaction.{outcome, transaction};
+ghost use Rattle.exports.specs.Calls.{GivesOn};
 use counts::tell;
 
 // Operations on the lent memory: records of eight words, kinds 1 to 5, checked along the chain before any access.
@@ -16,7 +16,7 @@ pub extern "C" fn qspi_transaction(
     polls: &mut usize,
     longest: &mut u32,
 ) -> u32
-    ensures { λ r. ⌜ GivesChain (transaction (now (words .entry))) limit (now (answers .entry)) (now (log .entry)) (now (memory .entry)) (now (log .exit)) (now (memory .exit)) r (now (entries .exit)) (now (taken .exit)) (now (polls .exit)) (now (longest .exit)) ⌝ }
+    ensures { λ r. ⌜ GivesOn (outcome (transaction (now (words .entry))) limit (now (answers .entry)) (now (log .entry)) (now (memory .entry))) (now (log .exit)) (now (memory .exit)) r (now (entries .exit)) (now (taken .exit)) (now (polls .exit)) (now (longest .exit)) ⌝ }
 {
     let p = chain::transaction(limit, log, answers, memory, words);
     tell(p, entries, taken, polls, longest)

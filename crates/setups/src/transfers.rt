@@ -1,5 +1,7 @@
 // How transfers go: the transfer configuration, and the lines of the work mode that a bus opens in.
 ghost use mathlib.Core.Path.{_≡_};
+ghost use mathlib.Core.Bool.{cond};
+ghost use Rattle.model.specs.Field.{setField};
 ghost use Rattle.setups.specs.Of.{transferAt, transfer};
 use registers::BitModeTransConfig;
 use registers::BusMode;
@@ -10,6 +12,26 @@ use registers::Phase;
 use registers::Polarity;
 use registers::TransMiscControl;
 use registers::TransferConfig;
+
+// With the low bit sent first, or the high one.
+fn ordered(config: TransferConfig, lsb_first: bool) -> TransferConfig
+    ensures { λ r. ⌜ r .0 ≡ setField 12 1 (cond «lsb_first» 1 0) (config .0) ⌝ }
+{
+    if lsb_first {
+        return config.enable_lsb_transmit();
+    }
+    config.disable_lsb_transmit()
+}
+
+// With data sampled on the edge, at a rate not above the oscillator's, or half a clock later.
+fn sampled(config: TransferConfig, slow: bool) -> TransferConfig
+    ensures { λ r. ⌜ r .0 ≡ setField 13 1 (cond slow 1 0) (config .0) ⌝ }
+{
+    if slow {
+        return config.disable_rx_data_delay();
+    }
+    config.enable_rx_data_delay()
+}
 
 pub enum Transfer {
     // Phase, polarity, who controls the chip select, low bit first.
@@ -55,25 +77,16 @@ impl Transfer {
                     .set_clk_pol(polarity)
                     .set_cs_ctrl_mode(cs_ctrl_mode)
                     .enable_tx_data_delay();
-                if lsb_first {
-                    config.enable_lsb_transmit().0
-                } else {
-                    config.disable_lsb_transmit().0
-                }
+                ordered(config, lsb_first).0
             }
             Transfer::ChipSelect(polarity, level, pin) => TransferConfig(word)
                 .set_cs_pol(polarity)
                 .set_cs_level(level)
                 .set_cs_pin_num(pin)
                 .0,
-            Transfer::Sampling(slow) => {
-                let config = TransferConfig(word);
-                if slow {
-                    config.disable_rx_data_delay().disable_rx_inner_delay().0
-                } else {
-                    config.enable_rx_data_delay().disable_rx_inner_delay().0
-                }
-            }
+            Transfer::Sampling(slow) => sampled(TransferConfig(word), slow)
+                .disable_rx_inner_delay()
+                .0,
             Transfer::Bus(mode) => BitModeTransConfig(word).set_bus_mode(mode).0,
             Transfer::Dual => TransMiscControl(word).enable_dual().0,
             Transfer::Quad => TransMiscControl(word).enable_quad().0,

@@ -1,4 +1,4 @@
-use Rattle.exports.proofs.Counts.{mode-gives}
+use Rattle.exports.proofs.Counts.{gives}
 use borrow.Author.Needs.{needs}
 use Rattle.exports.proofs.calls.qspi_set_work_mode.Statement.{statement}
 use Rattle.exports.proofs.calls.qspi_set_work_mode.Tie as tie
@@ -13,7 +13,7 @@ same-length : tie.Need-same-length
 same-length c = search needs
 
 returns : tie.Need-returns
-returns c = mode-gives (c .tell .ensures) (c .before .before .before .before .before .before .before .set-numbered-mode .ensures)
+returns c = gives (c .tell .ensures) (c .before .before .before .before .before .before .before .set-numbered-mode .ensures .state)
 
 pub qspi-set-work-mode-spec : {M : Type 1} → statement M
 qspi-set-work-mode-spec =

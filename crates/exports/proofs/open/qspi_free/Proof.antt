@@ -1,4 +1,4 @@
-use Rattle.exports.proofs.Counts.{release-gives}
+use Rattle.exports.proofs.Counts.{gives}
 use borrow.Author.Needs.{needs}
 use Rattle.exports.proofs.open.qspi_free.Statement.{statement}
 use Rattle.exports.proofs.open.qspi_free.Tie as tie
@@ -13,7 +13,7 @@ same-length : tie.Need-same-length
 same-length c = search needs
 
 returns : tie.Need-returns
-returns c = release-gives (c .tell .ensures) (c .before .before .before .before .before .before .before .free .ensures)
+returns c limit = gives (c .tell .ensures) (c .before .before .before .before .before .before .before .free .ensures .state limit)
 
 pub qspi-free-spec : {M : Type 1} → statement M
 qspi-free-spec = tie.close (tie.spec free-requires tell-requires same-length returns)

@@ -1,4 +1,4 @@
-use Rattle.exports.proofs.Opens.{opening-gives}
+use Rattle.exports.proofs.Counts.{opening-gives}
 use borrow.Author.Needs.{needs}
 use Rattle.exports.proofs.open.qspi_open.Statement.{statement}
 use Rattle.exports.proofs.open.qspi_open.Tie as tie

@@ -1,4 +1,4 @@
-use Rattle.exports.proofs.Counts.{sheet-gives}
+use Rattle.exports.proofs.Counts.{gives-on}
 use borrow.Author.Needs.{needs}
 use Rattle.exports.proofs.sheets.qspi_sheet.Statement.{statement}
 use Rattle.exports.proofs.sheets.qspi_sheet.Tie as tie
@@ -16,7 +16,7 @@ same-length-2 : tie.Need-same-length-2
 same-length-2 c = search needs
 
 returns : tie.Need-returns
-returns c = sheet-gives (c .tell .ensures) (c .before .before .before .before .before .before .before .before .before .run .ensures)
+returns c = gives-on (c .tell .ensures) (c .before .before .before .before .before .before .before .before .before .run .ensures .state)
 
 pub qspi-sheet-spec : {M : Type 1} → statement M
 qspi-sheet-spec =

@@ -1,4 +1,4 @@
-use Rattle.exports.proofs.Counts.{chain-gives}
+use Rattle.exports.proofs.Counts.{gives-on}
 use borrow.Author.Needs.{needs}
 use Rattle.exports.proofs.transaction.qspi_transaction.Statement.{statement}
 use Rattle.exports.proofs.transaction.qspi_transaction.Tie as tie
@@ -16,7 +16,7 @@ same-length-2 : tie.Need-same-length-2
 same-length-2 c = search needs
 
 returns : tie.Need-returns
-returns c = chain-gives (c .tell .ensures) (c .before .before .before .before .before .before .before .before .before .transaction .ensures)
+returns c = gives-on (c .tell .ensures) (c .before .before .before .before .before .before .before .before .before .transaction .ensures .state)
 
 pub qspi-transaction-spec : {M : Type 1} → statement M
 qspi-transaction-spec =

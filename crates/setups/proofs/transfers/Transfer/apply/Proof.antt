@@ -20,11 +20,8 @@ set-cs-ctrl-mode-requires c κs = search needs
 enable-tx-data-delay-requires : tie.Need-enable-tx-data-delay-requires
 enable-tx-data-delay-requires c κs = search needs
 
-enable-lsb-transmit-requires : tie.Need-enable-lsb-transmit-requires
-enable-lsb-transmit-requires c κs = search needs
-
-disable-lsb-transmit-requires : tie.Need-disable-lsb-transmit-requires
-disable-lsb-transmit-requires c κs = search needs
+ordered-requires : tie.Need-ordered-requires
+ordered-requires c κs = search needs
 
 enum-known-self-2 : tie.Need-enum-known-self-2
 enum-known-self-2 c = search needs
@@ -41,17 +38,11 @@ set-cs-pin-num-requires c κs = search needs
 enum-known-self-3 : tie.Need-enum-known-self-3
 enum-known-self-3 c = search needs
 
-disable-rx-data-delay-requires : tie.Need-disable-rx-data-delay-requires
-disable-rx-data-delay-requires c κs = search needs
+sampled-requires : tie.Need-sampled-requires
+sampled-requires c κs = search needs
 
 disable-rx-inner-delay-requires : tie.Need-disable-rx-inner-delay-requires
 disable-rx-inner-delay-requires c κs = search needs
-
-enable-rx-data-delay-requires : tie.Need-enable-rx-data-delay-requires
-enable-rx-data-delay-requires c κs = search needs
-
-disable-rx-inner-delay-requires-2 : tie.Need-disable-rx-inner-delay-requires-2
-disable-rx-inner-delay-requires-2 c κs = search needs
 
 enum-known-self-4 : tie.Need-enum-known-self-4
 enum-known-self-4 c = search needs
@@ -79,15 +70,14 @@ enable-qpi-requires c κs = search needs
 
 returns : tie.Need-returns
 returns c =
-    let delayed = c .before .before in
+    let delayed = c .before in
     let selected = delayed .before in
     let idle = selected .before in
     let phased = idle .before in
     let discards = phased .before in
     rw (
       discards .before .before .self .given .1,
-      c .before .if1 .taken,
-      c .enable-lsb-transmit .ensures,
+      c .ordered .ensures,
       delayed .enable-tx-data-delay .ensures,
       selected .set-cs-ctrl-mode .ensures,
       idle .set-clk-pol .ensures,
@@ -97,49 +87,25 @@ returns c =
 
 returns-2 : tie.Need-returns-2
 returns-2 c =
-    let delayed = c .before .before in
-    let selected = delayed .before in
-    let idle = selected .before in
-    let phased = idle .before in
-    let discards = phased .before in
-    rw (
-      discards .before .before .self .given .1,
-      c .before .if1 .left,
-      c .disable-lsb-transmit .ensures,
-      delayed .enable-tx-data-delay .ensures,
-      selected .set-cs-ctrl-mode .ensures,
-      idle .set-clk-pol .ensures,
-      phased .set-clk-pha .ensures,
-      discards .enable-discard-invalid-data .ensures,
-    )
-
-returns-3 : tie.Need-returns-3
-returns-3 c =
     let leveled = c .before in
     let idle = leveled .before in
     rw (idle .before .before .self2 .given .1, c .set-cs-pin-num .ensures, leveled .set-cs-level .ensures, idle .set-cs-pol .ensures)
 
+returns-3 : tie.Need-returns-3
+returns-3 c = let sampled = c .before in
+    rw (sampled .before .before .self3 .given .1, c .disable-rx-inner-delay .ensures, sampled .sampled .ensures)
+
 returns-4 : tie.Need-returns-4
-returns-4 c =
-    let test = c .before .before in
-    rw (test .before .before .self3 .given .1, test .if2 .taken, c .disable-rx-inner-delay .ensures, c .before .disable-rx-data-delay .ensures)
+returns-4 c = rw (c .before .before .self4 .given .1, c .set-bus-mode .ensures)
 
 returns-5 : tie.Need-returns-5
-returns-5 c =
-    let test = c .before .before in
-    rw (test .before .before .self3 .given .1, test .if2 .left, c .disable-rx-inner-delay2 .ensures, c .before .enable-rx-data-delay .ensures)
+returns-5 c = rw (c .before .enum-told .given .1, c .enable-dual .ensures)
 
 returns-6 : tie.Need-returns-6
-returns-6 c = rw (c .before .before .self4 .given .1, c .set-bus-mode .ensures)
+returns-6 c = rw (c .before .enum-told2 .given .1, c .enable-quad .ensures)
 
 returns-7 : tie.Need-returns-7
-returns-7 c = rw (c .before .enum-told .given .1, c .enable-dual .ensures)
-
-returns-8 : tie.Need-returns-8
-returns-8 c = rw (c .before .enum-told2 .given .1, c .enable-quad .ensures)
-
-returns-9 : tie.Need-returns-9
-returns-9 c = rw (c .before .enum-told3 .given .1, c .enable-qpi .ensures)
+returns-7 c = rw (c .before .enum-told3 .given .1, c .enable-qpi .ensures)
 
 pub apply-spec : {M : Type 1} → statement M
 apply-spec =
@@ -151,17 +117,14 @@ apply-spec =
     set-clk-pol-requires
     set-cs-ctrl-mode-requires
     enable-tx-data-delay-requires
-    enable-lsb-transmit-requires
-    disable-lsb-transmit-requires
+    ordered-requires
     enum-known-self-2
     set-cs-pol-requires
     set-cs-level-requires
     set-cs-pin-num-requires
     enum-known-self-3
-    disable-rx-data-delay-requires
+    sampled-requires
     disable-rx-inner-delay-requires
-    enable-rx-data-delay-requires
-    disable-rx-inner-delay-requires-2
     enum-known-self-4
     set-bus-mode-requires
     enum-told
@@ -176,6 +139,4 @@ apply-spec =
     returns-4
     returns-5
     returns-6
-    returns-7
-    returns-8
-    returns-9)
+    returns-7)
