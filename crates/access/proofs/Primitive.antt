@@ -22,30 +22,18 @@ use Rattle.answers.specs.Taken.{takenAt}
 use Rattle.answers.proofs.Laws.{found, not-found}
 use Rattle.access.specs.declared.progress.Progress.{Progress}
 use Rattle.access.specs.Of.{stateOf, withNumber, withCounts}
-use Rattle.access.specs.Does.{Sound, Stops, Acts, Asks}
-use Rattle.access.specs.Does.Stops.{own, full, on}
+use Rattle.access.specs.Does.{Sound, Acts, Asks}
 
 -- the log after that entry
 abbrev pub entry : Progress → List ℕ → ℕ → ℕ → List ℕ
 entry p log head value = set (set log (p .entries * 2) head) (p .entries * 2 + 1) value
 
--- with no number to stop it a call goes on, and the log has room
-pub goes-on : {n e w r : ℕ} → Stops n e w r → r ≡ 0 → (n ≡ 0) × (e < w / 2)
-goes-on (own i) z = absurd (i z)
-goes-on (full y h) z = absurd (omega (arith, z))
-goes-on (on y h) z = (y, h)
-
 module _ (p : Progress) (log : List ℕ) (few : Sound p) where
-  act-skipped : (a : event.Act) → (p .number ≡ 0 → ⊥) → Acts (act a (end done)) p log p log
+  pub act-skipped : (a : event.Act) → (p .number ≡ 0 → ⊥) → Acts (act a (end done)) p log p log
   act-skipped a n = record { sound = few; state = λ l ws m. sym (skipped _ l ws _ n) }
 
-  act-ten : (a : event.Act) → p .number ≡ 0 → length log / 2 ≤ p .entries → Acts (act a (end done)) p log (withNumber 10 p) log
+  pub act-ten : (a : event.Act) → p .number ≡ 0 → length log / 2 ≤ p .entries → Acts (act a (end done)) p log (withNumber 10 p) log
   act-ten a z h = record { sound = few; state = λ l ws m. sym (act-full ws (stateOf p log m) z a (end done) l h) }
-
-  pub act-stopped : (a : event.Act) {r : ℕ} → Stops (p .number) (p .entries) (length log) r → (r ≡ 0 → ⊥) → Acts (act a (end done)) p log (withNumber r p) log
-  act-stopped a (own i) n = act-skipped a i
-  act-stopped a (full z h) n = act-ten a z h
-  act-stopped a (on z h) n = absurd (n refl)
 
   pub act-entered : (a : event.Act) (log' : List ℕ) {head value : ℕ} → p .number ≡ 0 → p .entries < length log / 2
       → log' ≡ entry p log head value → head ≡ actHead a → value ≡ actValue a → Acts (act a (end done)) p log (withCounts (p .entries + 1) (p .taken) p) log'
@@ -58,11 +46,11 @@ module _ (p : Progress) (log : List ℕ) (few : Sound p) where
       }
 
   module _ (q : event.Ask) (answers : List ℕ) where
-    ask-skipped : (p .number ≡ 0 → ⊥) → Asks q answers p log p log 0
+    pub ask-skipped : (p .number ≡ 0 → ⊥) → Asks q answers p log p log 0
     ask-skipped n =
         record { sound = few; state = λ l m. sym (skipped _ l answers _ n); says = λ z. absurd (n z); none = λ y. refl; rises = λ z. absurd (n z) }
 
-    ask-ten : p .number ≡ 0 → length log / 2 ≤ p .entries → Asks q answers p log (withNumber 10 p) log 0
+    pub ask-ten : p .number ≡ 0 → length log / 2 ≤ p .entries → Asks q answers p log (withNumber 10 p) log 0
     unfolding advance run answerOf receive
     ask-ten z h =
         record {
@@ -72,11 +60,6 @@ module _ (p : Progress) (log : List ℕ) (few : Sound p) where
           none = λ y. refl;
           rises = λ y. absurd (omega (arith, y));
         }
-
-    pub ask-stopped : {r : ℕ} → Stops (p .number) (p .entries) (length log) r → (r ≡ 0 → ⊥) → Asks q answers p log (withNumber r p) log 0
-    ask-stopped (own i) n = ask-skipped i
-    ask-stopped (full z h) n = ask-ten z h
-    ask-stopped (on z h) n = absurd (n refl)
 
     pub ask-eleven : {t : Taken} → p .number ≡ 0 → p .entries < length log / 2 → t ≡ takenAt answers (p .taken) → not (t .found) ≡ true
         → Asks q answers p log (withNumber 11 p) log 0

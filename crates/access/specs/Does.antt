@@ -1,7 +1,7 @@
 -- What an access, a wait, a phase or a call promises: from the progress p and the log at entry to the progress r and the log at exit.
 use mathlib.Core.Path.{_≡_}
 use mathlib.Core.List.{List}
-use Prim.Native.Nat.{ℕ, _/_, _≤_, _<_}
+use Prim.Native.Nat.{ℕ, _≤_, _<_}
 use lib.ListN.{getD}
 use Rattle.model.specs.Event.{Ask, said}
 use Rattle.model.specs.Steps.{Steps}
@@ -14,12 +14,6 @@ use Rattle.access.specs.Of.{stateOf}
 -- the counts of a progress: no more polls than entries
 abbrev pub Sound : Progress → Type 0
 Sound p = p .tally .polls ≤ p .entries
-
--- What ends a call before its next entry: the number it has, or 10 where a log of so many words has no room for it; else 0.
-pub data Stops (number entries words : ℕ) : ℕ → Type 0 where
-  own : (number ≡ 0 → ⊥) → Stops number entries words number
-  full : number ≡ 0 → words / 2 ≤ entries → Stops number entries words 10
-  on : number ≡ 0 → entries < words / 2 → Stops number entries words 0
 
 -- Steps that take no answer and wait for nothing were done, whatever the memory, which they leave as it is.
 pub record Acts (s : Steps) (p : Progress) (log : List ℕ) (r : Progress) (log' : List ℕ) : Type 0 where

@@ -6,7 +6,7 @@ ghost use Rattle.model.specs.Event.{actHead, actValue, askHead, said};
 ghost use Rattle.model.specs.Steps.End.{done};
 ghost use Rattle.model.specs.Steps.Steps.{end, act};
 ghost use Rattle.access.specs.Of.{actOf, askOf};
-ghost use Rattle.access.specs.Does.{Sound, Stops, Acts, Asks};
+ghost use Rattle.access.specs.Does.{Sound, Acts, Asks};
 use super::progress::Progress;
 use config::number;
 
@@ -90,28 +90,18 @@ fn log_entry(log: &mut [u32], entries: usize, head: u32, value: u32)
     log[at + 1] = value;
 }
 
-// The number that ends a call before its next entry: its own, or 10 where a log of so many words has no room for it; else 0.
-fn stopped(number: u32, entries: usize, words: usize) -> u32
-    ensures { λ r. ⌜ Stops number entries words r ⌝ }
-{
-    if number != 0 {
-        return number;
-    }
-    if words / 2 <= entries {
-        return number::LOG;
-    }
-    number::DONE
-}
-
 // An access that takes no answer; 10 where its entry does not fit.
 pub fn perform(progress: Progress, log: &mut [u32], access: Act) -> Progress
     requires { ⌜ Sound progress ⌝ }
     ensures { λ r. ⌜ Acts (act (actOf access) (end done)) progress (now (log .entry)) r (now (log .exit)) ⌝ }
 {
     let entries = progress.entries;
-    let number = stopped(progress.number, entries, log.len());
+    let number = progress.number;
     if number != 0 {
         return progress.ended(number);
+    }
+    if log.len() / 2 <= entries {
+        return progress.ended(number::LOG);
     }
     log_entry(log, entries, access.head(), access.value());
     progress.entered(entries + 1, progress.taken)
@@ -123,10 +113,16 @@ pub fn query(progress: Progress, log: &mut [u32], answers: &[u32], access: Ask) 
     ensures { λ r. ⌜ Asks (askOf access) (now (answers .entry)) progress (now (log .entry)) (r .progress) (now (log .exit)) (r .word) ⌝ }
 {
     let entries = progress.entries;
-    let number = stopped(progress.number, entries, log.len());
+    let number = progress.number;
     if number != 0 {
         return Answer {
             progress: progress.ended(number),
+            word: 0,
+        };
+    }
+    if log.len() / 2 <= entries {
+        return Answer {
+            progress: progress.ended(number::LOG),
             word: 0,
         };
     }
