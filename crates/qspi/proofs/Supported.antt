@@ -28,7 +28,7 @@ reset-supported = then-supported _ _ (change-supported _ _) tt
 begin-supported : (total tx single dummy : ℕ) → Supported (beginTransfer total tx single dummy)
 unfolding programTransfer startTransfer beginTransfer
 begin-supported total tx single dummy =
-    then-supported _ _ (then-supported _ _ (change-supported _ _) (then-supported _ _ (change-supported _ _) (change-supported _ _))) (change-supported _ _)
+    then-supported _ _ (then-supported _ _ (change-supported _ _) (change-supported _ _)) (then-supported _ _ (change-supported _ _) (change-supported _ _))
 
 pub tx-supported : (single : Bool) (bytes : List ℕ) → Supported (txPhase single bytes)
 unfolding txPhase

@@ -35,7 +35,7 @@ module _ {at n : ℕ} where
   begin-inside : (total tx single dummy : ℕ) → Inside at n (beginTransfer total tx single dummy) (beginTransfer total tx single dummy)
   unfolding programTransfer startTransfer beginTransfer
   begin-inside total tx single dummy =
-      then-inside (then-inside (change-inside _ _) (then-inside (change-inside _ _) (change-inside _ _))) (change-inside _ _)
+      then-inside (then-inside (change-inside _ _) (change-inside _ _)) (then-inside (change-inside _ _) (change-inside _ _))
 
   -- bytes sent touch no memory
   sends-inside : (c : Cause) (count : ℕ) (bytes : List ℕ) → Inside at n (paced c count (map sent bytes)) (paced c count (map sent bytes))

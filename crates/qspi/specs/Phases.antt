@@ -15,18 +15,17 @@ use Rattle.model.specs.Steps.Steps.{end, act, get, wait}
 unfoldable pub resetFifos : Steps
 resetFifos = then (change 0x018 (λ w. setField 15 1 1 (setField 31 1 1 w))) (pause 10)
 
--- 030 the length; 034 the bytes to send; 038 bits 0 to 23 those on a single line, bits 24 to 27 the hardware's dummy bytes
-unfoldable pub programTransfer : ℕ → ℕ → ℕ → ℕ → Steps
-programTransfer total tx single dummy =
-    then (change 0x030 (setField 0 24 total))
-    (then (change 0x034 (setField 0 24 tx)) (change 0x038 (λ w. setField 24 4 dummy (setField 0 24 single w))))
+-- 030 the length; 034 the bytes to send
+unfoldable pub programTransfer : ℕ → ℕ → Steps
+programTransfer total tx = then (change 0x030 (setField 0 24 total)) (change 0x034 (setField 0 24 tx))
 
--- 008 START
-unfoldable pub startTransfer : Steps
-startTransfer = change 0x008 (setField 31 1 1)
+-- 038 bits 0 to 23 the bytes on a single line, bits 24 to 27 the hardware's dummy bytes; 008 START
+unfoldable pub startTransfer : ℕ → ℕ → Steps
+startTransfer single dummy =
+    then (change 0x038 (λ w. setField 24 4 dummy (setField 0 24 single w))) (change 0x008 (setField 31 1 1))
 
 unfoldable pub beginTransfer : ℕ → ℕ → ℕ → ℕ → Steps
-beginTransfer total tx single dummy = then (programTransfer total tx single dummy) startTransfer
+beginTransfer total tx single dummy = then (programTransfer total tx) (startTransfer single dummy)
 
 -- a byte to the transmit FIFO, or one from the receive FIFO to an index of the memory
 pub data Move : Type 0 where

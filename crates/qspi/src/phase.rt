@@ -5,7 +5,7 @@ ghost use Prim.Native.Nat.{_^_, _<_, min};
 ghost use lib.ListN.{length};
 ghost use Rattle.model.specs.Wait.Cause.{space, received};
 ghost use Rattle.access.specs.Does.{Sound, Acts, Does, Works, Runs, Gets};
-ghost use Rattle.qspi.specs.Phases.{resetFifos, programTransfer, startTransfer, beginTransfer, movedAll, paced, gots, txPhase, rxPhase};
+ghost use Rattle.qspi.specs.Phases.{resetFifos, programTransfer, startTransfer, movedAll, paced, gots, txPhase, rxPhase};
 ghost use Rattle.qspi.specs.Phases.Move.{sent};
 use super::transfer_counts::TransferCounts;
 use access::Act;
@@ -22,7 +22,7 @@ pub fn reset_fifos(progress: Progress, log: &mut [u32], answers: &[u32]) -> Prog
     access::entry::perform(reset, log, Act::Delay(10))
 }
 
-// Writes the counts of a phase.
+// Writes the bytes of a phase, and those to send.
 fn program_transfer(
     progress: Progress,
     log: &mut [u32],
@@ -30,38 +30,30 @@ fn program_transfer(
     counts: TransferCounts,
 ) -> Progress
     requires { ⌜ Sound progress ⌝ }
-    ensures { λ r. ⌜ Works (programTransfer (counts .total) (counts .tx) (counts .«single_line_tx») (counts .«hardware_dummy»)) (now (answers .entry)) progress (now (log .entry)) r (now (log .exit)) ⌝ }
+    ensures { λ r. ⌜ Works (programTransfer (counts .total) (counts .tx)) (now (answers .entry)) progress (now (log .entry)) r (now (log .exit)) ⌝ }
 {
     let first = changes::phases::set_total_bytes(progress, log, answers, counts.total);
-    let second = changes::phases::set_tx_cnt(first, log, answers, counts.tx);
-    changes::phases::set_single_line(
-        second,
-        log,
-        answers,
-        counts.single_line_tx,
-        counts.hardware_dummy,
-    )
+    changes::phases::set_tx_cnt(first, log, answers, counts.tx)
 }
 
-// Starts a new transfer.
-fn start_transfer(progress: Progress, log: &mut [u32], answers: &[u32]) -> Progress
-    requires { ⌜ Sound progress ⌝ }
-    ensures { λ r. ⌜ Works startTransfer (now (answers .entry)) progress (now (log .entry)) r (now (log .exit)) ⌝ }
-{
-    changes::phases::set_start(progress, log, answers)
-}
-
-fn begin_transfer(
+// Writes how many of them go on a single line, and starts. blocking.rs writes that in `program_transfer`; by twos the compiler inlines the changes.
+fn start_transfer(
     progress: Progress,
     log: &mut [u32],
     answers: &[u32],
     counts: TransferCounts,
 ) -> Progress
     requires { ⌜ Sound progress ⌝ }
-    ensures { λ r. ⌜ Works (beginTransfer (counts .total) (counts .tx) (counts .«single_line_tx») (counts .«hardware_dummy»)) (now (answers .entry)) progress (now (log .entry)) r (now (log .exit)) ⌝ }
+    ensures { λ r. ⌜ Works (startTransfer (counts .«single_line_tx») (counts .«hardware_dummy»)) (now (answers .entry)) progress (now (log .entry)) r (now (log .exit)) ⌝ }
 {
-    let programmed = program_transfer(progress, log, answers, counts);
-    start_transfer(programmed, log, answers)
+    let lined = changes::phases::set_single_line(
+        progress,
+        log,
+        answers,
+        counts.single_line_tx,
+        counts.hardware_dummy,
+    );
+    changes::phases::set_start(lined, log, answers)
 }
 
 // The smaller of two numbers.
@@ -184,7 +176,8 @@ pub fn tx_phase(
     }
     let counts = TransferCounts::tx(data.len() as u32, single_line);
     let reset = reset_fifos(progress, log, answers);
-    let begun = begin_transfer(reset, log, answers, counts);
+    let programmed = program_transfer(reset, log, answers, counts);
+    let begun = start_transfer(programmed, log, answers, counts);
     let written = write_bytes(limit, begun, log, answers, data);
     let drained = waits::wait_tx_drained(limit, written, log, answers);
     waits::wait_transfer_done(limit, drained, log, answers)
@@ -208,7 +201,8 @@ pub fn rx_phase(
     }
     let counts = TransferCounts::rx(data.len() as u32);
     let reset = reset_fifos(progress, log, answers);
-    let begun = begin_transfer(reset, log, answers, counts);
+    let programmed = program_transfer(reset, log, answers, counts);
+    let begun = start_transfer(programmed, log, answers, counts);
     let read = read_bytes(limit, begun, log, answers, data);
     waits::wait_transfer_done(limit, read, log, answers)
 }

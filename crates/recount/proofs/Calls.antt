@@ -46,7 +46,8 @@ reset-paired = then-paired (change-at 0x018 _ refl refl) (delay-paired 10)
 
 begin-paired : (total tx single dummy : ℕ) → Paired (beginTransfer total tx single dummy)
 unfolding programTransfer startTransfer beginTransfer
-begin-paired total tx single dummy = then-paired (then-paired (change-at 0x030 _ refl refl) (then-paired (change-at 0x034 _ refl refl) (change-at 0x038 _ refl refl))) (change-008 _)
+begin-paired total tx single dummy =
+    then-paired (then-paired (change-at 0x030 _ refl refl) (change-at 0x034 _ refl refl)) (then-paired (change-at 0x038 _ refl refl) (change-008 _))
 
 tx-paired : (single : Bool) (bytes : List ℕ) → Paired (txPhase single bytes)
 unfolding txPhase

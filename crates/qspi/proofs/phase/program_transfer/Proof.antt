@@ -10,20 +10,15 @@ set-total-bytes-requires c κs = search needs
 set-tx-cnt-requires : tie.Need-set-tx-cnt-requires
 set-tx-cnt-requires c κs = search needs
 
-set-single-line-requires : tie.Need-set-single-line-requires
-set-single-line-requires c κs = search needs
-
 same-length : tie.Need-same-length
 same-length c = search needs
 
 returns : tie.Need-returns
 unfolding programTransfer
 returns c =
-    let third = c .before .before in
-    let second = third .before .before .before .before in
+    let second = c .before .before in
     let first = second .before .before .before .before in
-    then-works (first .set-total-bytes .ensures) (then-works (second .set-tx-cnt .ensures) (third .set-single-line .ensures))
+    then-works (first .set-total-bytes .ensures) (second .set-tx-cnt .ensures)
 
 pub program-transfer-spec : {M : Type 1} → statement M
-program-transfer-spec =
-    tie.close (tie.spec set-total-bytes-requires set-tx-cnt-requires set-single-line-requires same-length returns)
+program-transfer-spec = tie.close (tie.spec set-total-bytes-requires set-tx-cnt-requires same-length returns)

@@ -1,5 +1,7 @@
+use mathlib.Core.Path.{_∙_}
 use Prim.Native.Nat.{_<_}
-use Rattle.access.proofs.Sequence.{then-runs, does-runs}
+use Rattle.access.proofs.Sequence.{then-works, then-runs, does-runs}
+use Rattle.qspi.specs.Phases.{beginTransfer}
 use Rattle.qspi.proofs.Sequence.{rx-none, rx-some}
 use borrow.Author.Needs.{needs}
 use Rattle.qspi.proofs.phase.rx_phase.Statement.{statement}
@@ -21,34 +23,51 @@ rx-requires c κs = search needs
 reset-fifos-requires : tie.Need-reset-fifos-requires
 reset-fifos-requires c κs = search needs
 
-begin-transfer-requires : tie.Need-begin-transfer-requires
-begin-transfer-requires c κs = search needs
+program-transfer-requires : tie.Need-program-transfer-requires
+program-transfer-requires c κs = search needs
+
+start-transfer-requires : tie.Need-start-transfer-requires
+start-transfer-requires c κs = search needs
 
 read-bytes-requires : tie.Need-read-bytes-requires
-read-bytes-requires c κs = search needs
+read-bytes-requires c κs =
+    let begun = c .before .before .before .before in
+    let programmed = begun .before .before .before .before in
+    let reset = programmed .before .before .before .before in
+    (begun .start-transfer .ensures .sound, some (reset .before .before .before))
 
 wait-transfer-done-requires : tie.Need-wait-transfer-done-requires
 wait-transfer-done-requires c κs =
     let read = c .before .before .before .before .before in
     let begun = read .before .before .before .before .before in
-    let reset = begun .before .before .before .before in
+    let programmed = begun .before .before .before .before in
+    let reset = programmed .before .before .before .before in
     (read .read-bytes .ensures .sound, some (reset .before .before .before))
 
 same-length : tie.Need-same-length
-same-length c = search needs
+same-length c =
+    let idle = c .before .before in
+    let read = idle .before .before .before .before .before .before in
+    let begun = read .before .before .before .before .before in
+    let programmed = begun .before .before .before .before in
+    let reset = programmed .before .before .before .before in
+    idle .wait-transfer-done .kept .1 .1 .0 ∙ read .read-bytes .kept .1 .1 .0
+    ∙ begun .start-transfer .kept .1 .0 ∙ programmed .program-transfer .kept .1 .0 ∙ reset .reset-fifos .kept .1 .0
 
 same-length-2 : tie.Need-same-length-2
 same-length-2 c = search needs
 
 returns-2 : tie.Need-returns-2
+unfolding beginTransfer
 returns-2 c =
     let idle = c .before .before in
     let read = idle .before .before .before .before .before .before in
     let begun = read .before .before .before .before .before in
-    let reset = begun .before .before .before .before in
+    let programmed = begun .before .before .before .before in
+    let reset = programmed .before .before .before .before in
     rx-some _ (reset .before .before .before .if1 .left)
     (then-runs (does-runs (reset .reset-fifos .ensures .does _) _)
-    (then-runs (does-runs (rw (reset .before .before .rx .ensures) at (begun .begin-transfer .ensures .does (reset .before .before .before .before .before .before .before .args .limit))) _)
+    (then-runs (does-runs (rw (reset .before .before .rx .ensures) at (then-works (programmed .program-transfer .ensures) (begun .start-transfer .ensures) .does (reset .before .before .before .before .before .before .before .args .limit))) _)
     (then-runs (read .read-bytes .ensures) (does-runs (idle .wait-transfer-done .ensures) _))))
 
 pub rx-phase-spec : {M : Type 1} → statement M
@@ -59,7 +78,8 @@ rx-phase-spec =
     cast-rx
     rx-requires
     reset-fifos-requires
-    begin-transfer-requires
+    program-transfer-requires
+    start-transfer-requires
     read-bytes-requires
     wait-transfer-done-requires
     same-length
