@@ -1,12 +1,14 @@
 -- The quad calls: what stops before the data phase, and what follows it.
-use mathlib.Core.Path.{_≡_, ap, sym, _∙_}
+use mathlib.Core.Path.{_≡_, refl, ap, sym, _∙_}
 use mathlib.Core.Bool.{cond}
 use mathlib.Core.List.{List}
-use Prim.Native.Nat.{ℕ, _<_}
+use Prim.Native.Nat.{ℕ, zero, suc, _<_}
+use native.Mathlib.Omega.{arith}
+use borrow.Author.Tests.{ne-eqb}
 use lib.Dec.{eqb}
 use Rattle.model.specs.Steps.{Steps, then, change, waitFor}
 use Rattle.model.specs.State as state
-use Rattle.model.specs.State.{standing, advance}
+use Rattle.model.specs.State.{State, standing, advance}
 use Rattle.model.specs.Supported.{Supported}
 use Rattle.model.specs.Order.{BeginsWithRead}
 use Rattle.model.proofs.Advance.{skipped}
@@ -32,6 +34,23 @@ standard-begins = tt
 pub closes : {limit : ℕ} {answers : List ℕ} {p r : Progress} {log log' : List ℕ} → Does standardMode limit answers (withNumber 0 p) log r log'
     → Closes limit answers p log (withNumber (cond (eqb (r .number) 0) (p .number) (r .number)) r) log'
 closes {p = p} {log = log} d = record { sound = d .sound; state = λ m. ap (standing (stateOf p log m)) (d .state m) }
+
+-- Where the first state did not fail, the second is as it would be by itself.
+kept : (n : ℕ) → cond (eqb n 0) 0 n ≡ n
+kept zero = refl
+kept (suc n) = ap (λ b. cond b 0 (suc n)) (ne-eqb (suc n) 0 (λ e. omega (arith, e)))
+
+stands : (s : Steps) (limit : ℕ) (answers : List ℕ) (st : State) → st .number ≡ 0
+    → standing st (advance s limit answers (state.withNumber 0 st)) ≡ advance s limit answers st
+stands s limit answers st z =
+    let after = advance s limit answers st in
+    ap (λ n. standing st (advance s limit answers (state.withNumber n st))) (sym z)
+    ∙ ap (λ n. state.withNumber (cond (eqb (after .number) 0) n (after .number)) after) z ∙ ap (λ n. state.withNumber n after) (kept (after .number))
+
+-- Standard tried from a progress that did not fail.
+pub closes-done : {limit : ℕ} {answers : List ℕ} {p r : Progress} {log log' : List ℕ} → p .number ≡ 0 → Does standardMode limit answers p log r log'
+    → Closes limit answers p log r log'
+closes-done z d = record { sound = d .sound; state = λ m. d .state m ∙ sym (stands _ _ _ (stateOf _ _ m) z) }
 
 module _ (command : List ℕ) (phase : Steps) {limit : ℕ} {answers : List ℕ} {p r : Progress} {log log' : List ℕ}
     (d : Does (quadStart command) limit answers p log r log') where

@@ -65,6 +65,9 @@ fn quad_end(limit: u32, progress: Progress, log: &mut [u32], answers: &[u32]) ->
     ensures { λ r. ⌜ Closes limit (now (answers .entry)) progress (now (log .entry)) r (now (log .exit)) ⌝ }
 {
     let number = progress.number;
+    if number == 0 {
+        return mode::set_work_mode(limit, false, progress, log, answers, WorkMode::Standard);
+    }
     let standard = mode::set_work_mode(
         limit,
         false,
