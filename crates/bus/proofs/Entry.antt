@@ -30,9 +30,13 @@ accepted {limit} {first} {second} r z = by (eqb limit 0) (ltb 0xFFFFFF first) (l
         let k : second ≤ 0xFFFFFF = ltb-false _ _ g in
         (omega arith, omega arith, omega arith)
 
+-- What is not refused begins with number 0.
+pub unrefused : {n : ℕ} {p q : Progress} → n ≡ 0 → p ≡ begun → q ≡ withNumber n p → q ≡ begun
+unrefused z b e = rw (e, b, z) refl
+
 -- What a call's first step asks for.
-pub begins : {limit first second n : ℕ} {p : Progress} → Refuses limit first second n → n ≡ 0 → p ≡ begun → Sound p × (0 < limit)
-begins r z b = (begun-sound b, accepted r z .0)
+pub begins : {limit first second n : ℕ} {p q : Progress} → Refuses limit first second n → n ≡ 0 → p ≡ begun → q ≡ withNumber n p → Sound q × (0 < limit)
+begins r z b e = (begun-sound (unrefused z b e), accepted r z .0)
 
 module _ (call : Call) {limit first second n : ℕ} (answers log : List ℕ) (r : Refuses limit first second n)
     (same : refusal limit (first ∷ second ∷ []) ≡ refusal limit (lengthsOf call)) where
@@ -50,10 +54,10 @@ module _ (call : Call) {limit first second n : ℕ} (answers log : List ℕ) (r 
     pub refused-called-on : {m : List ℕ} → CalledOn call limit answers log m q log m
     refused-called-on {m} = record { state = refused-outcome m }
 
-  module _ {p q : Progress} {log' : List ℕ} (z : n ≡ 0) (b : p ≡ begun) where
-    pub runs-called-on : {m m' : List ℕ} → Runs (stepsOf call) limit answers p log m q log' m' → CalledOn call limit answers log m q log' m'
+  module _ {p q t : Progress} {log' : List ℕ} (z : n ≡ 0) (b : p ≡ begun) (e : q ≡ withNumber n p) where
+    pub runs-called-on : {m m' : List ℕ} → Runs (stepsOf call) limit answers q log m t log' m' → CalledOn call limit answers log m t log' m'
     unfolding outcome
-    runs-called-on {m} d = record { state = (rw b at (d .state)) ∙ rw is-refusal (sym (called-runs (stepsOf call) limit answers log m z)) }
+    runs-called-on {m} d = record { state = (rw (unrefused z b e) at (d .state)) ∙ rw is-refusal (sym (called-runs (stepsOf call) limit answers log m z)) }
 
-    pub does-called : Does (stepsOf call) limit answers p log q log' → Called call limit answers log q log'
+    pub does-called : Does (stepsOf call) limit answers q log t log' → Called call limit answers log t log'
     does-called d = record { state = λ m. runs-called-on (does-runs d m) .state }

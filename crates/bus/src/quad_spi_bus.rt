@@ -19,12 +19,13 @@ pub fn read_quad(
     ensures { λ r. ⌜ CalledOn (Call.readQuad hz (now (command .entry)) «tclqv_ns» margin (length (now («data» .entry)))) limit (now (answers .entry)) (now (log .entry)) (now («data» .entry)) r (now (log .exit)) (now («data» .exit)) ⌝ }
 {
     let refused = refusal::refused(limit, data.len(), 0);
+    let begun = Progress::new().ended(refused);
     if refused != 0 {
-        return Progress::new().ended(refused);
+        return begun;
     }
     quad::read_quad(
         limit,
-        Progress::new(),
+        begun,
         log,
         answers,
         hz,
@@ -46,8 +47,9 @@ pub fn write_quad(
     ensures { λ r. ⌜ Called (Call.writeQuad (now (command .entry)) (now («data» .entry))) limit (now (answers .entry)) (now (log .entry)) r (now (log .exit)) ⌝ }
 {
     let refused = refusal::refused(limit, command.len(), data.len());
+    let begun = Progress::new().ended(refused);
     if refused != 0 {
-        return Progress::new().ended(refused);
+        return begun;
     }
-    quad::write_quad(limit, Progress::new(), log, answers, command, data)
+    quad::write_quad(limit, begun, log, answers, command, data)
 }

@@ -10,10 +10,11 @@ pub fn write(limit: u32, log: &mut [u32], answers: &[u32], words: &[u8]) -> Prog
     ensures { λ r. ⌜ Called (Call.write (now (words .entry))) limit (now (answers .entry)) (now (log .entry)) r (now (log .exit)) ⌝ }
 {
     let refused = refusal::refused(limit, words.len(), 0);
+    let begun = Progress::new().ended(refused);
     if refused != 0 {
-        return Progress::new().ended(refused);
+        return begun;
     }
-    qspi::phase::tx_phase(limit, Progress::new(), log, answers, words, true)
+    qspi::phase::tx_phase(limit, begun, log, answers, words, true)
 }
 
 // Reads as many words as there is room for.
@@ -21,10 +22,11 @@ pub fn read(limit: u32, log: &mut [u32], answers: &[u32], words: &mut [u8]) -> P
     ensures { λ r. ⌜ CalledOn (Call.read (length (now (words .entry)))) limit (now (answers .entry)) (now (log .entry)) (now (words .entry)) r (now (log .exit)) (now (words .exit)) ⌝ }
 {
     let refused = refusal::refused(limit, words.len(), 0);
+    let begun = Progress::new().ended(refused);
     if refused != 0 {
-        return Progress::new().ended(refused);
+        return begun;
     }
-    qspi::phase::rx_phase(limit, Progress::new(), log, answers, words)
+    qspi::phase::rx_phase(limit, begun, log, answers, words)
 }
 
 // Writes all of `write`, then reads all of `read`.
@@ -38,10 +40,11 @@ pub fn transfer(
     ensures { λ r. ⌜ CalledOn (Call.transfer (now (write .entry)) (length (now (read .entry)))) limit (now (answers .entry)) (now (log .entry)) (now (read .entry)) r (now (log .exit)) (now (read .exit)) ⌝ }
 {
     let refused = refusal::refused(limit, write.len(), read.len());
+    let begun = Progress::new().ended(refused);
     if refused != 0 {
-        return Progress::new().ended(refused);
+        return begun;
     }
-    transfer::transfer(limit, Progress::new(), log, answers, read, write)
+    transfer::transfer(limit, begun, log, answers, read, write)
 }
 
 // Writes and reads back `words`, by parts; no length is refused.
@@ -49,10 +52,11 @@ pub fn transfer_in_place(limit: u32, log: &mut [u32], answers: &[u32], words: &m
     ensures { λ r. ⌜ CalledOn (Call.transferInPlace (length (now (words .entry)))) limit (now (answers .entry)) (now (log .entry)) (now (words .entry)) r (now (log .exit)) (now (words .exit)) ⌝ }
 {
     let refused = refusal::refused(limit, 0, 0);
+    let begun = Progress::new().ended(refused);
     if refused != 0 {
-        return Progress::new().ended(refused);
+        return begun;
     }
-    transfer::transfer_in_place(limit, Progress::new(), log, answers, words)
+    transfer::transfer_in_place(limit, begun, log, answers, words)
 }
 
 // Waits for the transfer to complete.
@@ -60,8 +64,9 @@ pub fn flush(limit: u32, log: &mut [u32], answers: &[u32]) -> Progress
     ensures { λ r. ⌜ Called Call.flush limit (now (answers .entry)) (now (log .entry)) r (now (log .exit)) ⌝ }
 {
     let refused = refusal::refused(limit, 0, 0);
+    let begun = Progress::new().ended(refused);
     if refused != 0 {
-        return Progress::new().ended(refused);
+        return begun;
     }
-    waits::wait_transfer_done(limit, Progress::new(), log, answers)
+    waits::wait_transfer_done(limit, begun, log, answers)
 }

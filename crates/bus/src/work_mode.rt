@@ -16,8 +16,9 @@ pub fn set_work_mode(
     ensures { λ r. ⌜ Called (Call.setWorkMode qpi mode) limit (now (answers .entry)) (now (log .entry)) r (now (log .exit)) ⌝ }
 {
     let refused = refusal::refused(limit, 0, 0);
+    let begun = Progress::new().ended(refused);
     if refused != 0 {
-        return Progress::new().ended(refused);
+        return begun;
     }
-    mode::set_work_mode(limit, qpi, Progress::new(), log, answers, mode)
+    mode::set_work_mode(limit, qpi, begun, log, answers, mode)
 }

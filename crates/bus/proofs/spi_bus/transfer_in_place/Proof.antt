@@ -17,13 +17,10 @@ ended-requires c κs = search needs
 
 returns : tie.Need-returns
 unfolding refusal tooLong lengthsOf stepsOf
-returns c = refused-called-on (transferInPlace _) _ _ (c .before .before .before .refused .ensures) refl (c .before .before .if1 .taken) (c .before .new .ensures) (c .ended .ensures)
-
-new-requires-2 : tie.Need-new-requires-2
-new-requires-2 c κs = search needs
+returns c = refused-called-on (transferInPlace _) _ _ (c .before .before .before .refused .ensures) refl (c .if1 .taken) (c .before .before .new .ensures) (c .before .ended .ensures)
 
 transfer-in-place-requires : tie.Need-transfer-in-place-requires
-transfer-in-place-requires c κs = let test = c .before .before .before in begins (test .before .refused .ensures) (test .if1 .left) (c .before .before .new2 .ensures)
+transfer-in-place-requires c κs = let test = c .before .before in begins (test .before .before .before .refused .ensures) (test .if1 .left) (test .before .before .new .ensures) (test .before .ended .ensures)
 
 same-length : tie.Need-same-length
 same-length c = search needs
@@ -35,9 +32,8 @@ returns-2 : tie.Need-returns-2
 unfolding refusal tooLong lengthsOf stepsOf
 returns-2 c =
     let done = c .before .before .before .before in
-    let begun = done .before .before .before in
-    let test = begun .before in
-    runs-called-on (transferInPlace _) _ _ (test .before .refused .ensures) refl (test .if1 .left) (begun .new2 .ensures) (done .transfer-in-place .ensures)
+    let test = done .before .before .before in
+    runs-called-on (transferInPlace _) _ _ (test .before .before .before .refused .ensures) refl (test .if1 .left) (test .before .before .new .ensures) (test .before .ended .ensures) (done .transfer-in-place .ensures)
 
 pub transfer-in-place-spec : {M : Type 1} → statement M
 transfer-in-place-spec =
@@ -47,7 +43,6 @@ transfer-in-place-spec =
     new-requires
     ended-requires
     returns
-    new-requires-2
     transfer-in-place-requires
     same-length
     same-length-2

@@ -1,4 +1,4 @@
-use Rattle.bus.proofs.Entry.{accepted, refused-called, does-called}
+use Rattle.bus.proofs.Entry.{accepted, unrefused, refused-called, does-called}
 use Rattle.bus.specs.Calls.Call.{write}
 use Rattle.bus.specs.Calls.{stepsOf, lengthsOf, tooLong, refusal}
 use Rattle.access.proofs.Sequence.{begun-sound}
@@ -18,16 +18,13 @@ ended-requires c κs = search needs
 
 returns : tie.Need-returns
 unfolding refusal tooLong lengthsOf stepsOf
-returns c = refused-called (write _) _ _ (c .before .before .before .refused .ensures) refl (c .before .before .if1 .taken) (c .before .new .ensures) (c .ended .ensures)
-
-new-requires-2 : tie.Need-new-requires-2
-new-requires-2 c κs = search needs
+returns c = refused-called (write _) _ _ (c .before .before .before .refused .ensures) refl (c .if1 .taken) (c .before .before .new .ensures) (c .before .ended .ensures)
 
 tx-phase-requires : tie.Need-tx-phase-requires
 tx-phase-requires c κs =
-    let test = c .before .before in
-    let ok = accepted (test .before .refused .ensures) (test .if1 .left) in
-    (begun-sound (c .before .new2 .ensures), (ok .0, ok .1))
+    let test = c .before in
+    let ok = accepted (test .before .before .before .refused .ensures) (test .if1 .left) in
+    (begun-sound (unrefused (test .if1 .left) (test .before .before .new .ensures) (test .before .ended .ensures)), (ok .0, ok .1))
 
 same-length : tie.Need-same-length
 same-length c = search needs
@@ -36,9 +33,8 @@ returns-2 : tie.Need-returns-2
 unfolding refusal tooLong lengthsOf stepsOf
 returns-2 c =
     let sent = c .before .before in
-    let begun = sent .before .before in
-    let test = begun .before in
-    does-called (write _) _ _ (test .before .refused .ensures) refl (test .if1 .left) (begun .new2 .ensures) (sent .tx-phase .ensures)
+    let test = sent .before .before in
+    does-called (write _) _ _ (test .before .before .before .refused .ensures) refl (test .if1 .left) (test .before .before .new .ensures) (test .before .ended .ensures) (sent .tx-phase .ensures)
 
 pub write-spec : {M : Type 1} → statement M
 write-spec =
@@ -48,7 +44,6 @@ write-spec =
     new-requires
     ended-requires
     returns
-    new-requires-2
     tx-phase-requires
     same-length
     returns-2)
