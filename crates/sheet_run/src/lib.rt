@@ -42,7 +42,16 @@ fn run_in(bytes: &mut [u8], log: &mut [u32], h: Header, room: &mut [u32]) -> Pro
     run_words(bytes, log, h, &room[..all])
 }
 
-// A sheet of this header. The room for its words is cleared for each sheet, so a small sheet gets a small one.
+// A sheet of this header, however many words it has. This room is in a function of its own: a smaller sheet does not touch its stack.
+fn run_large(bytes: &mut [u8], log: &mut [u32], h: Header) -> Progress
+    requires { ⌜ Heads (now bytes) h ⌝ }
+    ensures { λ r. ⌜ RunsSheet (now (bytes .entry)) (now (log .entry)) r (now (log .exit)) (now (bytes .exit)) ⌝ }
+{
+    let mut room = [0u32; 16384];
+    run_in(bytes, log, h, &mut room)
+}
+
+// A sheet of this header. Its room is cleared first, so it has 64 words or less than twice as many as are needed, up to 2,048.
 fn run_opened(bytes: &mut [u8], log: &mut [u32], h: Header) -> Progress
     requires { ⌜ Heads (now bytes) h ⌝ }
     ensures { λ r. ⌜ RunsSheet (now (bytes .entry)) (now (log .entry)) r (now (log .exit)) (now (bytes .exit)) ⌝ }
@@ -52,12 +61,27 @@ fn run_opened(bytes: &mut [u8], log: &mut [u32], h: Header) -> Progress
         let mut room = [0u32; 64];
         return run_in(bytes, log, h, &mut room);
     }
+    if all <= 128 {
+        let mut room = [0u32; 128];
+        return run_in(bytes, log, h, &mut room);
+    }
+    if all <= 256 {
+        let mut room = [0u32; 256];
+        return run_in(bytes, log, h, &mut room);
+    }
+    if all <= 512 {
+        let mut room = [0u32; 512];
+        return run_in(bytes, log, h, &mut room);
+    }
     if all <= 1024 {
         let mut room = [0u32; 1024];
         return run_in(bytes, log, h, &mut room);
     }
-    let mut room = [0u32; 16384];
-    run_in(bytes, log, h, &mut room)
+    if all <= 2048 {
+        let mut room = [0u32; 2048];
+        return run_in(bytes, log, h, &mut room);
+    }
+    run_large(bytes, log, h)
 }
 
 // Any bytes: 13, or the run of the sheet that they are.
