@@ -99,7 +99,7 @@ fn quad_row(t: &mut Tables, length: usize) {
 pub fn rows(t: &mut Tables) {
     [1, 64, 4096, 65_000].into_iter().for_each(|length| write_row(t, length));
     [1, 64, 4096, 65_000].into_iter().for_each(|length| read_row(t, length));
-    quad_row(t, 256);
+    [1, 256, 4096].into_iter().for_each(|length| quad_row(t, length));
     Sides {
         lean: |l: &mut Lent| open_lean(l, black_box(RATES)),
         port: |l: &mut Lent| library::open(l, black_box(RATES)),
