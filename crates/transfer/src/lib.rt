@@ -56,7 +56,7 @@ pub fn transfer_in_place(
     requires { ⌜ 0 < limit ⌝ }
     ensures { λ r. ⌜ Runs (inPlaceSteps 0 (length (now (words .entry)))) limit (now (answers .entry)) progress (now (log .entry)) (now (words .entry)) r (now (log .exit)) (now (words .exit)) ⌝ }
 {
-    let mut current = progress;
+    let mut current = progress.ended(progress.number);
     let mut idx: usize = 0;
     while idx < words.len() {
         let len = qspi::phase::least(PART, words.len() - idx);

@@ -17,8 +17,11 @@ Inv-loop limit log₀ answers words₀ current₀ idx₀ log words current idx =
 abbrev μ-loop : tie.MeasureT-loop
 μ-loop limit log₀ answers words₀ current₀ idx₀ log words current idx = length words₀ - idx
 
+ended-requires : tie.Need-ended-requires Inv-loop μ-loop
+ended-requires c κs = search needs
+
 loop-holds : tie.Need-loop-holds Inv-loop μ-loop
-loop-holds c = (search needs, through-starts inPlaceSteps _ _ _ _ _ (search needs))
+loop-holds c = (search needs, through-starts inPlaceSteps _ _ _ _ _ (rw (c .ended .ensures) (search needs)))
 
 sub-least : tie.Need-sub-least Inv-loop μ-loop
 sub-least c = search needs
@@ -55,7 +58,7 @@ returns c =
     let on = turn .before .loop .inv .1 in
     let more = exchanging-more on (portion .least .result) (omega (arith, turn .loop-test .taken, on .same)) (omega (arith, portion .least .ensures, on .same))
     (rw add-sub-cancel-left at (sent .transfer-part .kept .1 .1 .1 .1 .0)) (rw add-sub-cancel-left at (sent .transfer-part .ensures)) in
-    rw add-sub-cancel-left (through-stops more (c .if1 .taken))
+    rw add-sub-cancel-left (rw (turn .before .before .ended .ensures) at (through-stops more (c .if1 .taken)))
 
 add-idx : tie.Need-add-idx Inv-loop μ-loop
 add-idx c = add-transfer-part (c .before .before .before .before .before .before .before)
@@ -85,7 +88,7 @@ same-length-4 : tie.Need-same-length-4 Inv-loop μ-loop
 same-length-4 c = search needs
 
 returns-2 : tie.Need-returns-2 Inv-loop μ-loop
-returns-2 c = through-done (c .before .loop .inv .1) in-place-ends (search needs)
+returns-2 c = rw (c .before .before .ended .ensures) at (through-done (c .before .loop .inv .1) in-place-ends (search needs))
 
 pub transfer-in-place-spec : {M : Type 1} → statement M
 transfer-in-place-spec =
@@ -93,6 +96,7 @@ transfer-in-place-spec =
     (tie.spec
     Inv-loop
     μ-loop
+    ended-requires
     loop-holds
     sub-least
     least-requires
