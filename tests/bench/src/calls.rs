@@ -1,10 +1,11 @@
-//! Writes and reads, a quad read, an opening.
+//! The calls of the bus, and an opening.
 
 use crate::library::{self, Ended, Lent};
 use crate::rust::{Answered, lean, open_lean, open_recorded, recorded};
 use crate::timing::{Tables, row};
 use oracle_recorder::call::Call as Recorded;
 use recorder::call::Call;
+use std::cell::RefCell;
 use std::hint::black_box;
 
 /// An answer that is ready for every wait: no byte is left to be sent, 64 are received, START is clear.
@@ -41,9 +42,10 @@ where
         ];
         assert!(ends[0].0 == 0 && ends.iter().all(|e| *e == ends[0]), "{name}: {ends:?}");
         assert!(one == two, "{name}: the logs differ");
+        let log = RefCell::new(one);
         let times = t.times([
-            &mut || _ = black_box((self.lean)(&mut Lent::new(limit, &mut one, answers))),
-            &mut || _ = black_box((self.port)(&mut Lent::new(limit, &mut two, answers))),
+            &mut || _ = black_box((self.lean)(&mut Lent::new(limit, &mut log.borrow_mut(), answers))),
+            &mut || _ = black_box((self.port)(&mut Lent::new(limit, &mut log.borrow_mut(), answers))),
             &mut || _ = black_box((self.recorded)(a)),
         ]);
         if let Some([lean, port, recorded]) = times {
@@ -96,10 +98,64 @@ fn quad_row(t: &mut Tables, length: usize) {
     assert!(one == two, "the bytes differ");
 }
 
+fn quad_write_row(t: &mut Tables, length: usize) {
+    let (command, data): ([u8; 4], &[u8]) = ([0x32, 1, 2, 3], &vec![0x5A; length]);
+    Sides {
+        lean: |l: &mut Lent| lean(l, || lean_driver::calls::call(0, Call::QuadWrite(&command, black_box(data)))),
+        port: |l: &mut Lent| library::write_quad(l, &command, black_box(data)),
+        recorded: |a| recorded(a, || d13x::calls::call(0, Recorded::QuadWrite(&command, black_box(data)))),
+    }
+    .row(t, &format!("quad write, {length} B, command 4 B"), room(length) + 60);
+}
+
+/// A transfer that writes four bytes and reads so many.
+fn transfer_row(t: &mut Tables, length: usize) {
+    let [mut one, mut two, mut three] = [(); 3].map(|()| vec![0x5A; length]);
+    let sent = [0x03, 1, 2, 3];
+    Sides {
+        lean: |l: &mut Lent| lean(l, || lean_driver::calls::call(0, Call::Transfer(black_box(&mut one), &sent))),
+        port: |l: &mut Lent| library::transfer(l, black_box(&mut two), &sent),
+        recorded: |a| recorded(a, || d13x::calls::call(0, Recorded::Transfer(black_box(&mut three), &sent))),
+    }
+    .row(t, &format!("transfer, 4 B out, {length} B in"), room(length) + 40);
+    assert!(one == two, "the bytes differ");
+}
+
+fn in_place_row(t: &mut Tables, length: usize) {
+    let [mut one, mut two, mut three] = [(); 3].map(|()| vec![0x5A; length]);
+    Sides {
+        lean: |l: &mut Lent| lean(l, || lean_driver::calls::call(0, Call::InPlace(black_box(&mut one)))),
+        port: |l: &mut Lent| library::transfer_in_place(l, black_box(&mut two)),
+        recorded: |a| recorded(a, || d13x::calls::call(0, Recorded::InPlace(black_box(&mut three)))),
+    }
+    .row(t, &format!("transfer in place, {length} B"), 2 * room(length) + 30 * (length / 256 + 1));
+    assert!(one == two, "the bytes differ");
+}
+
+/// Flush, and the change to mode Quad, the fifth.
+fn short_rows(t: &mut Tables) {
+    Sides {
+        lean: |l: &mut Lent| lean(l, || lean_driver::calls::call(0, Call::Flush)),
+        port: library::flush,
+        recorded: |a| recorded(a, || d13x::calls::call(0, Recorded::Flush)),
+    }
+    .row(t, "flush", 10);
+    Sides {
+        lean: |l: &mut Lent| lean(l, || lean_driver::calls::call(0, Call::Mode(black_box(4)))),
+        port: |l: &mut Lent| library::set_work_mode(l, black_box(4)),
+        recorded: |a| recorded(a, || d13x::calls::call(0, Recorded::Mode(black_box(4)))),
+    }
+    .row(t, "mode Quad", 10);
+}
+
 pub fn rows(t: &mut Tables) {
     [1, 64, 4096, 65_000].into_iter().for_each(|length| write_row(t, length));
     [1, 64, 4096, 65_000].into_iter().for_each(|length| read_row(t, length));
     [1, 256, 4096].into_iter().for_each(|length| quad_row(t, length));
+    [1, 256, 4096].into_iter().for_each(|length| quad_write_row(t, length));
+    [1, 256].into_iter().for_each(|length| transfer_row(t, length));
+    [1, 4096].into_iter().for_each(|length| in_place_row(t, length));
+    short_rows(t);
     Sides {
         lean: |l: &mut Lent| open_lean(l, black_box(RATES)),
         port: |l: &mut Lent| library::open(l, black_box(RATES)),

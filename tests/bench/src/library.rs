@@ -42,6 +42,23 @@ pub fn flush(l: &mut Lent) -> Ended {
     ended(library::flush(&mut lent(l)))
 }
 
+pub fn transfer(l: &mut Lent, read: &mut [u8], write: &[u8]) -> Ended {
+    ended(library::transfer(&mut lent(l), read, write))
+}
+
+pub fn transfer_in_place(l: &mut Lent, bytes: &mut [u8]) -> Ended {
+    ended(library::transfer_in_place(&mut lent(l), bytes))
+}
+
+/// On the chip with QPI.
+pub fn set_work_mode(l: &mut Lent, mode: u32) -> Ended {
+    ended(library::set_work_mode(&mut lent(l), true, mode))
+}
+
+pub fn write_quad(l: &mut Lent, command: &[u8], data: &[u8]) -> Ended {
+    ended(library::write_quad(&mut lent(l), command, data))
+}
+
 /// A quad read at a rate, with tclqv and margin.
 pub fn read_quad(l: &mut Lent, (hz, tclqv_ns, margin): (u32, u32, u8), command: &[u8], data: &mut [u8]) -> Ended {
     let asked = library::QuadRead { hz, command, tclqv_ns, margin };
