@@ -10,7 +10,7 @@ use super::progress::Progress;
 use config::number;
 
 // An access that takes no answer.
-#[derive(Drop)]
+#[derive(Clone, Copy)]
 pub enum Act {
     // A register's place and the word for it.
     Write(u16, u32),
@@ -45,7 +45,7 @@ impl Act {
 }
 
 // An access that takes the next answer.
-#[derive(Drop)]
+#[derive(Clone, Copy)]
 pub enum Ask {
     // A register's place.
     Register(u16),
@@ -76,7 +76,7 @@ impl Ask {
 }
 
 // What an answer says, with the progress after it; 0 where there is none.
-#[derive(Drop)]
+#[derive(Clone, Copy)]
 pub struct Answer {
     pub progress: Progress,
     pub word: u32,

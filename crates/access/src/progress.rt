@@ -4,7 +4,7 @@ ghost use Rattle.model.specs.Tally.{plus, poll_tally};
 ghost use Rattle.access.specs.Of.{cause_of, tally_in, begun, with_number, with_counts, with_tally};
 
 // What a wait is for.
-#[derive(Drop)]
+#[derive(Clone, Copy)]
 pub enum Cause {
     // Space in the transmit FIFO.
     Space,
@@ -17,7 +17,7 @@ pub enum Cause {
 }
 
 // Polls, and the most unready ones in one wait.
-#[derive(Drop)]
+#[derive(Clone, Copy)]
 pub struct Tally {
     pub polls: usize,
     pub longest: u32,
@@ -46,7 +46,7 @@ impl Tally {
 }
 
 // Nothing more is done once the number is not 0.
-#[derive(Drop)]
+#[derive(Clone, Copy)]
 pub struct Progress {
     pub number: u32,
     pub entries: usize,

@@ -1,16 +1,18 @@
 // The answers and the place reached in them, which travel as one struct that holds a reference.
+#![tactic(auto)]
+
 ghost use Rattle.std.specs.Prelude.{◌≡◌};
 ghost use Rattle.answers.specs.Taken.{taken_at};
 
 // The lent answers; the next of them stands at `at`.
-#[derive(Drop)]
+#[derive(Clone, Copy)]
 pub struct Answers<'a> {
     pub words: &'a [u32],
     pub at: usize,
 }
 
 // The next answer and the place after it; where none is left, 0 and the place as it was.
-#[derive(Drop)]
+#[derive(Clone, Copy)]
 pub struct Taken {
     pub found: bool,
     pub word: u32,

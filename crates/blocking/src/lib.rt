@@ -1,4 +1,6 @@
 // The blocking QSPI bus, from blocking.rs. It is plain data: each call is right for every value of it, opened or not.
+#![tactic(auto)]
+
 ghost use Rattle.std.specs.Prelude.{◌≡◌, length};
 ghost use Rattle.clock.specs.Dummies.{dummies};
 ghost use Rattle.bus.specs.Calls.{Call};
@@ -12,7 +14,7 @@ use access::Progress;
 use config::{QspiConfig, WorkMode};
 use opening::ClockTree;
 
-#[derive(Drop)]
+#[derive(Clone, Copy)]
 pub struct BlockingQspi {
     pub instance: u32,
     // The chip has QPI.
@@ -25,7 +27,7 @@ pub struct BlockingQspi {
 }
 
 // What an opening hands back.
-#[derive(Drop)]
+#[derive(Clone, Copy)]
 pub enum Opened {
     // With number 0.
     Open(BlockingQspi, Progress),

@@ -1,4 +1,6 @@
 // The calls of the bus as a user makes them: refused before any access, or run from no entry and the first answer on.
+#![tactic(auto)]
+
 pub mod quad_spi_bus;
 pub mod refusal;
 pub mod spi_bus;

@@ -1,3 +1,4 @@
 pub mod Number
 pub mod Ends
 pub mod Same
+pub mod Find

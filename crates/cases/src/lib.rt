@@ -1,7 +1,10 @@
 // The text of a list of cases: where a case ends, the numbers of its line, and whether two texts are the same.
+#![tactic(auto)]
+
 ghost use Rattle.std.specs.Prelude.{◌≡◌, ◌≤◌, ◌^◌, length};
 ghost use Rattle.cases.specs.Number.{digit_of, step, value_of, is_hex, number_of};
 ghost use Rattle.cases.specs.Ends.{ends_at, end_from};
+ghost use Rattle.cases.specs.Find.{index_of, part_of};
 ghost use Rattle.cases.specs.Same.{same_bytes};
 
 // What is no number below 2^32.
@@ -130,4 +133,21 @@ pub fn same(a: &[u8], b: &[u8]) -> bool
         return false;
     }
     true
+}
+
+// The place of the first such byte of text from `from` on and before `to`; `to` where there is none.
+pub fn find(text: &[u8], from: usize, to: usize, byte: u8) -> usize
+    requires from_le_to { from ≤ to }
+    requires to_in_bounds { to ≤ length text.now }
+    ensures place { result ≡ from + index_of byte (part_of from to text.now) }
+    ensures bounds { (from ≤ result) × (result ≤ to) }
+{
+    let mut i = from;
+    while i < to {
+        if text[i] == byte {
+            return i;
+        }
+        i += 1;
+    }
+    i
 }

@@ -1,4 +1,6 @@
 // Chains of records, checked whole and then run.
+#![tactic(auto)]
+
 ghost use Rattle.std.specs.Prelude.{◌≡◌, ◌<◌, length};
 ghost use Rattle.records.specs.declared.Verdict as declared;
 ghost use Rattle.records.specs.Check.{checked, verdict, chain_of};

@@ -4,7 +4,7 @@ ghost use Rattle.changes.specs.Of.{changed_at, changed};
 
 use setups::{ClockWord, Controller, Transfer};
 
-#[derive(Drop)]
+#[derive(Clone, Copy)]
 pub enum Change {
     // The module clock's word, at its place.
     Clock(u16, ClockWord),

@@ -1,4 +1,6 @@
 // Changes of registers: one read and one write at a register's place.
+#![tactic(auto)]
+
 ghost use Rattle.access.specs.Does.{Sound, Works};
 ghost use Rattle.changes.specs.Of.{change_of};
 

@@ -9,7 +9,7 @@ use access::{Act, Ask, Progress};
 use registers::{TransMiscControl, TransferConfig};
 
 // The data lines.
-#[derive(Drop)]
+#[derive(Clone, Copy)]
 pub enum Lines {
     One,
     Two,

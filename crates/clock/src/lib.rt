@@ -1,4 +1,6 @@
 // The clock of the QSPI bus: document 01, "Clock".
+#![tactic(auto)]
+
 ghost use Rattle.std.specs.Prelude.{◌≡◌, ◌+◌, ◌-◌, ◌*◌, ◌<◌, min};
 ghost use Rattle.clock.specs.Candidate.{candidate, factor_at, divider_at, in_range};
 ghost use Rattle.clock.specs.Skip.{next_place};
@@ -20,20 +22,20 @@ const CANDIDATES: u64 = 8_704;
 // The rank of no candidate: 2^33 × 8,704.
 const NO_RANK: u64 = 74_766_790_688_768;
 
-#[derive(Drop)]
+#[derive(Clone, Copy)]
 pub enum DividerSelect {
     Cdr1(u8),
     Cdr2(u8),
 }
 
-#[derive(Drop)]
+#[derive(Clone, Copy)]
 pub struct Choice {
     pub mod_div: u8,
     pub divider: DividerSelect,
 }
 
 // The rate that a choice of dividers gives.
-#[derive(Drop)]
+#[derive(Clone, Copy)]
 pub enum Sck {
     Rate(u32),
     NoDivider,

@@ -1,4 +1,6 @@
 // The clock's dividers by numbers: a kind, 1 for Cdr1 and 2 for Cdr2, and a count.
+#![tactic(auto)]
+
 ghost use Rattle.std.specs.Prelude.{◌≡◌};
 ghost use Rattle.clock_numbers.specs.Dividers.{kind_of, count_of, divider_of, sck_of, Answered};
 
@@ -6,14 +8,14 @@ use clock::{DividerSelect, Sck};
 use config::number;
 
 // A divider by its numbers, if there is one.
-#[derive(Drop)]
+#[derive(Clone, Copy)]
 pub enum DividerFound {
     Select(DividerSelect),
     Unknown,
 }
 
 // A rate with number 0; or number 12 and rate 0.
-#[derive(Drop)]
+#[derive(Clone, Copy)]
 pub struct Rated {
     pub number: u32,
     pub hz: u32,

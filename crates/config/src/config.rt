@@ -6,7 +6,7 @@ use super::spi;
 use super::spi::Mode;
 use registers::{CsLevel, CsPin, CtrlMode, Polarity};
 
-#[derive(Drop)]
+#[derive(Clone, Copy)]
 pub struct QspiConfig {
     // Target rate in Hz.
     pub freq: u32,
@@ -19,7 +19,7 @@ pub struct QspiConfig {
     pub cs_config: CsConfig,
 }
 
-#[derive(Drop)]
+#[derive(Clone, Copy)]
 pub enum WorkMode {
     // 1-bit data transfer.
     Standard,
@@ -49,7 +49,7 @@ const WORK_MODES: [WorkMode; 7] = [
 ];
 
 // The work mode of a number, if it has one.
-#[derive(Drop)]
+#[derive(Clone, Copy)]
 pub enum WorkModeFound {
     Mode(WorkMode),
     Unknown,
@@ -83,7 +83,7 @@ impl WorkMode {
 }
 
 // The chip-select record, if there is one.
-#[derive(Drop)]
+#[derive(Clone, Copy)]
 pub enum CsConfig {
     None,
     Some {

@@ -4,7 +4,7 @@ ghost use Rattle.config.specs.Error.{error_number};
 
 use super::number;
 
-#[derive(Drop)]
+#[derive(Clone, Copy)]
 pub enum QspiError {
     // Timeout waiting for hardware.
     Timeout,

@@ -1,4 +1,6 @@
 // Configuration, errors, and document 01's numbers.
+#![tactic(auto)]
+
 pub mod config;
 pub mod error;
 pub mod number;

@@ -5,7 +5,7 @@ ghost use Rattle.config.specs.Spi.{supported};
 use registers::{Phase, Polarity};
 
 // SPI mode: the clock's idle level and the transition on which data is captured.
-#[derive(Drop)]
+#[derive(Clone, Copy)]
 pub struct Mode {
     pub polarity: Polarity,
     pub phase: Phase,

@@ -1,4 +1,6 @@
 // A configuration by numbers and flags, and what a number that is no work mode is refused as.
+#![tactic(auto)]
+
 ghost use Rattle.std.specs.Prelude.{◌≡◌};
 ghost use Rattle.config.specs.Config.{work_mode_of};
 ghost use Rattle.config_numbers.specs.Limit.{default_limit, no_mode};
@@ -8,7 +10,7 @@ use config::{CsConfig, Mode, QspiConfig, WorkMode, WorkModeFound, number};
 use registers::{CsLevel, CsPin, CtrlMode, Phase, Polarity};
 
 // A configuration by its numbers, if they are one.
-#[derive(Drop)]
+#[derive(Clone, Copy)]
 pub enum ConfigFound {
     Known(QspiConfig),
     Unknown,

@@ -1,4 +1,6 @@
 // The number of a call and its four counts, as a caller by C names gets them.
+#![tactic(auto)]
+
 ghost use Rattle.counts.specs.Told.{Told};
 
 use access::Progress;

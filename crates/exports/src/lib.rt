@@ -1,4 +1,6 @@
 // The library to link: functions on numbers and slices, with C names. None asks anything of its caller.
+#![tactic(auto)]
+
 ghost use Rattle.std.specs.Prelude.{◌≡◌};
 ghost use Rattle.config_numbers.specs.Limit.{default_limit};
 

@@ -1,4 +1,6 @@
 // The lines that a sheet prints, written into a lent buffer.
+#![tactic(auto)]
+
 ghost use Rattle.std.specs.Prelude.{◌≡◌, ◌+◌, ◌*◌, ◌≤◌, ◌<◌, ◌%◌, length, take};
 ghost use Rattle.io.specs.Digits.{hex_digit_ascii};
 ghost use Rattle.lines.specs.Text.{letter_of, entry_line, entry_lines, number, end_line, printed, Wrote};
@@ -67,8 +69,9 @@ fn put(out: &mut [u8], at: usize, src: &[u8]) -> usize
     requires { at + length src.now ≤ length out.old }
     ensures { Wrote out.old at out.new result src.now }
 {
-    bytes::copy(src, &mut out[at..]);
-    at + src.len()
+    let end = at + src.len();
+    out[at..end].copy_from_slice(src);
+    end
 }
 
 // A blank, and n in decimal.

@@ -1,4 +1,6 @@
 // The work mode of a bus, from blocking.rs.
+#![tactic(auto)]
+
 ghost use Rattle.std.specs.Prelude.{◌≡◌, ◌<◌};
 ghost use Rattle.access.specs.Does.{Sound, Does, Works};
 ghost use Rattle.mode.specs.Mode.{qpi_mode, work_mode_steps};

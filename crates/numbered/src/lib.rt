@@ -1,4 +1,6 @@
 // The calls whose work mode or configuration is numbers, which may be none.
+#![tactic(auto)]
+
 ghost use Rattle.config.specs.Config.{work_mode_of};
 ghost use Rattle.numbered.specs.Calls.{CalledMode, OpensFound};
 

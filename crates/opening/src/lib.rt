@@ -1,4 +1,6 @@
 // Opening and release of the bus, as a user calls them: `new` and `free` of blocking.rs.
+#![tactic(auto)]
+
 ghost use Rattle.std.specs.Prelude.{◌≡◌, ◌<◌};
 ghost use Rattle.clock.specs.Answer.{sck};
 ghost use Rattle.access.specs.Does.{Sound, Works};
@@ -15,14 +17,14 @@ use setups::ClockWord;
 pub mod refusal;
 
 // The clocks that an opening is told, in Hz.
-#[derive(Drop)]
+#[derive(Clone, Copy)]
 pub struct ClockTree {
     pub pll_fra0: u32,
     pub osc_24m: u32,
 }
 
 // How an opening ended, and the rate of its bus; 0 unless it is done.
-#[derive(Drop)]
+#[derive(Clone, Copy)]
 pub struct Opened {
     pub progress: Progress,
     pub sck_hz: u32,

@@ -1,7 +1,7 @@
 // Byte counts of one half-duplex phase.
 ghost use Rattle.std.specs.Prelude.{◌≡◌, cond};
 
-#[derive(Drop)]
+#[derive(Clone, Copy)]
 pub struct TransferCounts {
     // Bytes transferred on the bus.
     pub total: u32,

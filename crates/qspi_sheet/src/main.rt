@@ -1,4 +1,6 @@
 // Reads a sheet from standard input and prints its lines. One byte more than a sheet may have is read, to see that there are too many.
+#![tactic(auto)]
+
 fn main() {
     let mut bytes = [0u8; 65537];
     let n = io::read_full(0, &mut bytes);

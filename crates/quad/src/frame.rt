@@ -3,7 +3,7 @@ ghost use Rattle.quad.specs.Frames.{Frames};
 
 use qspi::phase;
 
-#[derive(Drop)]
+#[derive(Clone, Copy)]
 pub struct QuadFrame {
     pub bytes: [u8; 16],
     pub length: usize,
@@ -16,7 +16,7 @@ pub fn quad_frame(command: &[u8], dummies: u8) -> QuadFrame
     let dummy = phase::least(dummies as usize, 8);
     let command_len = phase::least(command.len(), 16 - dummy);
     let mut frame = [0u8; 16];
-    bytes::copy(&command[..command_len], &mut frame);
+    frame[..command_len].copy_from_slice(&command[..command_len]);
     QuadFrame {
         bytes: frame,
         length: command_len + dummy,

@@ -1,4 +1,6 @@
 // The quad calls, from blocking.rs: a command on a single line, then data on four.
+#![tactic(auto)]
+
 ghost use Rattle.std.specs.Prelude.{◌≡◌, false, cond, ◌^◌, ◌≤◌, ◌<◌, eqb, length, take};
 ghost use Rattle.qspi.specs.Phases.{tx_phase, rx_phase};
 ghost use Rattle.clock.specs.Dummies.{dummies};

@@ -1,11 +1,13 @@
 // Records of eight words, and the check of their chain before anything is done.
+#![tactic(auto)]
+
 ghost use Rattle.std.specs.Prelude.{◌≡◌, [], ◌∷◌, ◌*◌, ◌≤◌, length};
 ghost use Rattle.records.specs.Check.{record_at, known, out_of_range, next_fits, outside_of, too_long, extents_fault, windows_fault, record_fault, checked, verdict};
 
 use config::number;
 
 // What the check says.
-#[derive(Drop)]
+#[derive(Clone, Copy)]
 pub enum Verdict {
     Fine,
     // The number of the first fault and its record; 0 for the slice itself.
@@ -67,7 +69,7 @@ fn out_of_range(r: [u32; 8]) -> bool
 }
 
 // A window of a record; `phase` says that its length is that of one phase.
-#[derive(Drop)]
+#[derive(Clone, Copy)]
 struct Extent {
     start: u32,
     size: u32,

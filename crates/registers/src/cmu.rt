@@ -3,7 +3,7 @@ ghost use Rattle.std.specs.Prelude.{◌≡◌};
 ghost use Rattle.model.specs.Field.{set_field};
 
 // Module clock register (CLK_QSPI0 to CLK_QSPI3), place 0x1000 + instance.
-#[derive(Drop)]
+#[derive(Clone, Copy)]
 pub struct NormalModuleClock(pub u32);
 
 impl NormalModuleClock {

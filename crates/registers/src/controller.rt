@@ -6,7 +6,7 @@ ghost use Rattle.registers.specs.Setting.{bus_mode_bits, clock_div_sel_bits, cs_
 use super::setting::{BusMode, ClockDivSel, CsCtrlMode, CsLevel, CsPin, CtrlMode, Phase, Polarity};
 
 // Configuration register (SPI_CFG), 0x004.
-#[derive(Drop)]
+#[derive(Clone, Copy)]
 pub struct Config(pub u32);
 
 impl Config {
@@ -40,7 +40,7 @@ impl Config {
 }
 
 // Transfer configuration register (SPI_TCFG), 0x008.
-#[derive(Drop)]
+#[derive(Clone, Copy)]
 pub struct TransferConfig(pub u32);
 
 impl TransferConfig {
@@ -165,7 +165,7 @@ impl TransferConfig {
 }
 
 // Interrupt control register (SPI_ICR), 0x010.
-#[derive(Drop)]
+#[derive(Clone, Copy)]
 pub struct IntControl(pub u32);
 
 impl IntControl {
@@ -178,7 +178,7 @@ impl IntControl {
 }
 
 // Interrupt status register (SPI_ISTS), 0x014.
-#[derive(Drop)]
+#[derive(Clone, Copy)]
 pub struct IntStatus(pub u32);
 
 impl IntStatus {
@@ -191,7 +191,7 @@ impl IntStatus {
 }
 
 // FIFO control register (SPI_FCTL), 0x018.
-#[derive(Drop)]
+#[derive(Clone, Copy)]
 pub struct FifoControl(pub u32);
 
 impl FifoControl {
@@ -225,7 +225,7 @@ impl FifoControl {
 }
 
 // FIFO status register (SPI_FSTS), 0x01C.
-#[derive(Drop)]
+#[derive(Clone, Copy)]
 pub struct FifoStatus(pub u32);
 
 impl FifoStatus {
@@ -245,7 +245,7 @@ impl FifoStatus {
 }
 
 // Clock configuration register (SPI_CCFG), 0x024.
-#[derive(Drop)]
+#[derive(Clone, Copy)]
 pub struct ClkConfig(pub u32);
 
 impl ClkConfig {
@@ -272,7 +272,7 @@ impl ClkConfig {
 }
 
 // Total bytes counter register (SPI_TBC), 0x030.
-#[derive(Drop)]
+#[derive(Clone, Copy)]
 pub struct TotalBytesCnt(pub u32);
 
 impl TotalBytesCnt {
@@ -285,7 +285,7 @@ impl TotalBytesCnt {
 }
 
 // Transmit write counter register (SPI_TWC), 0x034.
-#[derive(Drop)]
+#[derive(Clone, Copy)]
 pub struct TransCnt(pub u32);
 
 impl TransCnt {
@@ -298,7 +298,7 @@ impl TransCnt {
 }
 
 // Transmit miscellaneous control register (SPI_TMC), 0x038.
-#[derive(Drop)]
+#[derive(Clone, Copy)]
 pub struct TransMiscControl(pub u32);
 
 impl TransMiscControl {
@@ -353,7 +353,7 @@ impl TransMiscControl {
 }
 
 // Bit-mode transfer configuration register (SPI_BMTC), 0x040.
-#[derive(Drop)]
+#[derive(Clone, Copy)]
 pub struct BitModeTransConfig(pub u32);
 
 impl BitModeTransConfig {

@@ -1,4 +1,6 @@
 // Registers of the QSPI controller and of its module clock: fields as shifts and masks.
+#![tactic(auto)]
+
 pub mod cmu;
 pub mod controller;
 pub mod setting;

@@ -3,7 +3,7 @@ ghost use Rattle.std.specs.Prelude.{◌≡◌};
 ghost use Rattle.registers.specs.Setting.{ctrl_mode_bits, cs_level_bits, cs_ctrl_mode_bits, cs_pin_bits, clock_div_sel_bits, bus_mode_bits, polarity_bits, phase_bits};
 
 // Controller mode.
-#[derive(Drop)]
+#[derive(Clone, Copy)]
 pub enum CtrlMode {
     Slave,
     Master,
@@ -21,7 +21,7 @@ impl CtrlMode {
 }
 
 // Chip-select level.
-#[derive(Drop)]
+#[derive(Clone, Copy)]
 pub enum CsLevel {
     Low,
     High,
@@ -39,7 +39,7 @@ impl CsLevel {
 }
 
 // Who controls the chip select.
-#[derive(Drop)]
+#[derive(Clone, Copy)]
 pub enum CsCtrlMode {
     SpiController,
     Software,
@@ -57,7 +57,7 @@ impl CsCtrlMode {
 }
 
 // Chip-select pin of the external device.
-#[derive(Drop)]
+#[derive(Clone, Copy)]
 pub enum CsPin {
     Cs0,
     Cs1,
@@ -75,7 +75,7 @@ impl CsPin {
 }
 
 // Clock divider in use: CKDIV1 or CKDIV2.
-#[derive(Drop)]
+#[derive(Clone, Copy)]
 pub enum ClockDivSel {
     Div1,
     Div2,
@@ -93,7 +93,7 @@ impl ClockDivSel {
 }
 
 // Bus mode.
-#[derive(Drop)]
+#[derive(Clone, Copy)]
 pub enum BusMode {
     // Bytes, for standard, dual and quad SPI.
     StandardBytes,
@@ -116,7 +116,7 @@ impl BusMode {
 }
 
 // Level of an idle line.
-#[derive(Drop)]
+#[derive(Clone, Copy)]
 pub enum Polarity {
     IdleLow,
     IdleHigh,
@@ -134,7 +134,7 @@ impl Polarity {
 }
 
 // Clock transition on which data is captured.
-#[derive(Drop)]
+#[derive(Clone, Copy)]
 pub enum Phase {
     CaptureOnFirstTransition,
     CaptureOnSecondTransition,

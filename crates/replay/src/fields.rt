@@ -4,7 +4,7 @@ ghost use Rattle.io.specs.Counts.{IsPrefixLen};
 ghost use Rattle.replay.specs.Fields.{ends_with_list};
 
 // A part of the numbers: how many bytes or words it has, and the place after it. What is no part has none and leads to the end.
-#[derive(Drop)]
+#[derive(Clone, Copy)]
 pub struct Part {
     pub found: bool,
     pub len: usize,
@@ -19,7 +19,7 @@ pub fn parse(line: &[u8], out: &mut [u32]) -> usize
     let mut n: usize = 0;
     while at < line.len() {
         let from = at + 1;
-        let to = bytes::scan::find(line, from, line.len(), b' ');
+        let to = cases::find(line, from, line.len(), b' ');
         let value = cases::number(&line[from..to]);
         if n == out.len() {
             return 0;

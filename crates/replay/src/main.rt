@@ -1,4 +1,6 @@
 // Replays the list of cases on standard input: makes each case's call on the library and compares what it did with the answer that follows the case.
+#![tactic(auto)]
+
 ghost use Rattle.std.specs.Prelude.{◌≤◌, ◌<◌, length};
 ghost use Rattle.io.specs.Counts.{IsPrefixLen};
 
@@ -48,8 +50,8 @@ fn answer(name: &[u8], f: &[u32], out: &mut [u8]) -> usize
 
 // One case: its line, and the lines of its answer.
 fn replay(case: &[u8]) -> Verdict {
-    let line = bytes::scan::find(case, 0, case.len(), b'\n');
-    let name = bytes::scan::find(case, 0, line, b' ');
+    let line = cases::find(case, 0, case.len(), b'\n');
+    let name = cases::find(case, 0, line, b' ');
     let mut numbers = [0u32; 2048];
     let count = fields::parse(&case[name..line], &mut numbers);
     let mut out = [0u8; 65664];
@@ -65,7 +67,7 @@ fn replay(case: &[u8]) -> Verdict {
 }
 
 // The tally after some cases, and the bytes that they take.
-#[derive(Drop)]
+#[derive(Clone, Copy)]
 struct Replayed {
     tally: Tally,
     used: usize,
@@ -104,7 +106,7 @@ fn shift(text: &mut [u8], from: usize, to: usize) -> usize
 }
 
 // What a piece of the input leaves: bytes at the start of the text, and whether a case was found.
-#[derive(Drop)]
+#[derive(Clone, Copy)]
 struct Left {
     tally: Tally,
     have: usize,

@@ -17,7 +17,7 @@ pub fn answer(name: &[u8], f: &[u32], out: &mut [u8]) -> usize
 }
 
 // How an opening ended and its rate.
-#[derive(Drop)]
+#[derive(Clone, Copy)]
 struct Rated {
     progress: access::Progress,
     hz: u32,

@@ -17,8 +17,9 @@ pub fn put(out: &mut [u8], at: usize, src: &[u8]) -> usize
     if src.len() > out.len() - at {
         return out.len();
     }
-    bytes::copy(src, &mut out[at..]);
-    at + src.len()
+    let end = at + src.len();
+    out[at..end].copy_from_slice(src);
+    end
 }
 
 // A blank, and n in decimal.

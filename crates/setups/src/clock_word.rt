@@ -4,7 +4,7 @@ ghost use Rattle.setups.specs.Of.{clock_word};
 
 use registers::NormalModuleClock;
 
-#[derive(Drop)]
+#[derive(Clone, Copy)]
 pub enum ClockWord {
     // The divider, and both enables.
     On(u8),

@@ -8,7 +8,7 @@ const DEFAULT_TX_WATERMARK: u8 = 32;
 
 const DEFAULT_RX_WATERMARK: u8 = 32;
 
-#[derive(Drop)]
+#[derive(Clone, Copy)]
 pub enum Controller {
     // Reset.
     Reset,

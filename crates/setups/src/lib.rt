@@ -1,4 +1,6 @@
 // The changes of an opening and a release: what blocking.rs's `new` and `free` make of a word read.
+#![tactic(auto)]
+
 pub mod clock_word;
 pub mod controller;
 pub mod transfers;

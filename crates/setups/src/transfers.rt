@@ -28,7 +28,7 @@ fn sampled(config: TransferConfig, slow: bool) -> TransferConfig
     config.enable_rx_data_delay()
 }
 
-#[derive(Drop)]
+#[derive(Clone, Copy)]
 pub enum Transfer {
     // Phase, polarity, who controls the chip select, low bit first.
     Format(Phase, Polarity, CsCtrlMode, bool),

@@ -1,11 +1,13 @@
 // The bytes of a sheet: its header, the test for 13, and its words.
+#![tactic(auto)]
+
 ghost use Rattle.std.specs.Prelude.{◌≡◌, ◌+◌, ◌*◌, ◌≤◌, length, drop};
 ghost use Rattle.sheet.specs.Words.{word_at, words};
 ghost use Rattle.sheet.specs.Words.{word as Words·word};
 ghost use Rattle.sheet.specs.Open.{opened};
 
 // The header of a sheet; `memory` is the byte at which the lent memory starts.
-#[derive(Drop)]
+#[derive(Clone, Copy)]
 pub struct Header {
     pub limit: u32,
     pub rate: u32,
@@ -16,7 +18,7 @@ pub struct Header {
 }
 
 // What bytes are: a sheet, or refused (13).
-#[derive(Drop)]
+#[derive(Clone, Copy)]
 pub enum Opened {
     Accepted(Header),
     Refused,

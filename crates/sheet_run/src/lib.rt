@@ -1,4 +1,6 @@
 // The run of a sheet, whose memory is the end of its bytes.
+#![tactic(auto)]
+
 ghost use Rattle.std.specs.Prelude.{◌≡◌, ◌+◌, ◌*◌, ◌≤◌, length, drop};
 ghost use Rattle.sheet.specs.Words.{words as Words·words};
 ghost use Rattle.sheet_run.specs.Run.{Heads, RunsSheet};

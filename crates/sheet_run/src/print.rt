@@ -2,7 +2,7 @@
 ghost use Rattle.sheet_run.specs.Print.{Prints};
 
 // Room for 4,096 lines of sixteen bytes, and the last one.
-#[derive(Drop)]
+#[derive(Clone, Copy)]
 pub struct Printed {
     pub text: [u8; 65664],
     pub length: usize,

@@ -1,4 +1,6 @@
 // Transfers, from blocking.rs.
+#![tactic(auto)]
+
 ghost use Rattle.std.specs.Prelude.{◌^◌, ◌≤◌, ◌<◌, length};
 ghost use Rattle.access.specs.Does.{Sound, Runs};
 ghost use Rattle.transfer.specs.Transfer.{transfer_steps, part_steps, in_place_steps};
@@ -40,7 +42,8 @@ fn transfer_part(
     ensures { Runs (part_steps 0 (length chunk.old)) limit answers.now progress log.old chunk.old result log.new chunk.new }
 {
     let mut temp = [0u8; 256];
-    let len = bytes::copy(chunk, &mut temp);
+    let len = chunk.len();
+    temp[..len].copy_from_slice(chunk);
     transfer(limit, progress, log, answers, chunk, &temp[..len])
 }
 

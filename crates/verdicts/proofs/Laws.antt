@@ -2,7 +2,7 @@
 use Rattle.std.proofs.Common.{◌≡◌, ℕ, suc, ◌+◌, ◌-◌, ◌<◌, ◌≤◌, Bool, true, false, cond, ◌&&◌, ◌||◌, eqb, leb, List, [], ◌∷◌, length, take, drop, sym, refl, ap, ◌∙◌, arith, length-drop, drop_of_length-le, length-take, take_all, drop-drop, ne_eqb, le-leb}
 use borrow.Author.Tests.{lt-leb}
 use lib.Seq.{take-length}
-use Rattle.bytes.specs.Bytes.{index_of, index_after, slice}
+use Rattle.cases.specs.Find.{index_of, index_after, part_of}
 use Rattle.cases.specs.Same.{same_bytes}
 use Rattle.cases.specs.Number.{number_of}
 use Rattle.verdicts.specs.declared.Verdict.{Verdict}
@@ -58,7 +58,7 @@ module _ (t : List ℕ) where
   own_later e h = rw e (own_next t h)
 
 -- the same from a place on, as the line end is found there
-module _ (text : List ℕ) (at end : ℕ) (e : end ≡ at + index_of 10 (slice at (length text) text)) where
+module _ (text : List ℕ) (at end : ℕ) (e : end ≡ at + index_of 10 (part_of at (length text) text)) where
   place : end ≡ at + index_of 10 (drop at text)
   unfolding slice
   place = e ∙ ap (λ (t : List ℕ). at + index_of 10 (drop at t)) (take-length text)
@@ -148,7 +148,7 @@ module _ (text : List ℕ) where
   unfolding refused
   refused_sck e = rw e
 
-  module _ (end : ℕ) (q : end ≡ 0 + index_of 10 (slice 0 (length text) text)) (e : same_bytes text no_sck ≡ false) where
+  module _ (end : ℕ) (q : end ≡ 0 + index_of 10 (part_of 0 (length text) text)) (e : same_bytes text no_sck ≡ false) where
     here : end ≡ index_of 10 text
     here = let k : end ≡ 0 + index_of 10 text = place text 0 end q in omega arith
 

@@ -1,6 +1,6 @@
 -- What the comparison of a case finds (tests/oracle/README.md says what an answer is).
 use Rattle.std.specs.Prelude.{ℕ, ◌-◌, Bool, false, cond, ◌&&◌, ◌||◌, List, [], ◌∷◌, length, take, drop, ◌==◌, nat_le}
-use Rattle.bytes.specs.Bytes.{index_of}
+use Rattle.cases.specs.Find.{index_of}
 use Rattle.cases.specs.Number.{number_of}
 use Rattle.cases.specs.Same.{same_bytes}
 use Rattle.verdicts.specs.declared.Verdict.{Verdict}

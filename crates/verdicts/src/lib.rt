@@ -1,4 +1,6 @@
 // The verdict on a case: the oracle's answer against the library's; and the tally of verdicts.
+#![tactic(auto)]
+
 ghost use Rattle.std.specs.Prelude.{◌≡◌};
 ghost use Rattle.verdicts.specs.Judged.{oracles_own, has_own, refusing, refused_end, refused, judged};
 ghost use Rattle.verdicts.specs.Tallied.{none, tallied};
@@ -7,7 +9,7 @@ ghost use Rattle.verdicts.specs.declared.Verdict.{Verdict};
 use std::num::wrapping_add_u64;
 
 // What the comparison of a case found.
-#[derive(Drop)]
+#[derive(Clone, Copy)]
 pub enum Verdict {
     Same,
     // The oracle has no such answer, and the library refuses the call.
@@ -16,7 +18,7 @@ pub enum Verdict {
 }
 
 // How many cases were compared, excluded and different; `first` is the number of the first that differs, from 1, or 0. Each goes round at 2^64.
-#[derive(Drop)]
+#[derive(Clone, Copy)]
 pub struct Tally {
     pub replayed: u64,
     pub excluded: u64,
@@ -102,7 +104,7 @@ fn has_oracles_own_line(answer: &[u8]) -> bool
 {
     let mut at: usize = 0;
     while at < answer.len() {
-        let end = bytes::scan::find(answer, at, answer.len(), b'\n');
+        let end = cases::find(answer, at, answer.len(), b'\n');
         if oracles_own_line(&answer[at..end]) {
             return true;
         }
@@ -151,7 +153,7 @@ fn is_refusal(answer: &[u8]) -> bool
     if cases::same(answer, b"sck 12 0\n") {
         return true;
     }
-    let line = bytes::scan::find(answer, 0, answer.len(), b'\n');
+    let line = cases::find(answer, 0, answer.len(), b'\n');
     if !refusal_line(&answer[..line]) {
         return false;
     }

@@ -1,4 +1,6 @@
 // The four waits.
+#![tactic(auto)]
+
 ghost use Rattle.std.specs.Prelude.{◌≡◌, ◌<◌};
 ghost use Rattle.model.specs.Wait.{place_of, count_of, ready};
 ghost use Rattle.model.specs.Wait.Cause.{empty, start};
@@ -58,7 +60,7 @@ fn is_ready(cause: Cause, word: u32) -> bool
 }
 
 // A count, with the progress after its wait; 0 where the wait did not end ready.
-#[derive(Drop)]
+#[derive(Clone, Copy)]
 pub struct Waited {
     pub progress: Progress,
     pub count: u32,
@@ -109,7 +111,7 @@ fn poll_until_ready(
 }
 
 // How far a call has come, but for its tally.
-#[derive(Drop)]
+#[derive(Clone, Copy)]
 pub struct Reached {
     pub number: u32,
     pub entries: usize,
@@ -117,14 +119,14 @@ pub struct Reached {
 }
 
 // The count that a wait ended with, and how far it came.
-#[derive(Drop)]
+#[derive(Clone, Copy)]
 pub struct Outcome {
     pub reached: Reached,
     pub count: u32,
 }
 
 // The same, with the tally after it.
-#[derive(Drop)]
+#[derive(Clone, Copy)]
 pub struct Tallied {
     pub outcome: Outcome,
     pub tally: Tally,

@@ -1,4 +1,6 @@
 // Calls on windows of one lent memory. What is sent is a returned part of it; what is received goes to a part lent for the call.
+#![tactic(auto)]
+
 ghost use Rattle.std.specs.Prelude.{◌≡◌, ◌+◌, ◌^◌, ◌≤◌, ◌<◌, length};
 ghost use Rattle.qspi.specs.Phases.{rx_phase};
 ghost use Rattle.transfer.specs.Transfer.{in_place_steps};
@@ -10,7 +12,7 @@ use access::Progress;
 use qspi::phase;
 
 // A start and a length in the memory.
-#[derive(Drop)]
+#[derive(Clone, Copy)]
 pub struct Span {
     pub start: usize,
     pub len: usize,

@@ -1,0 +1,7 @@
+use native.Mathlib.Omega.{arith}
+use lib.ListN.{length-set}
+use borrow.Author.Rules.{rules}
+use Rattle.access.proofs.entry.log_entry.Goals as goal
+
+pub bounds-log-at-2 : goal.bounds-log-at-2
+bounds-log-at-2 c = simp length-set (omega arith)

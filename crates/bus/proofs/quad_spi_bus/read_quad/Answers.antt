@@ -1,0 +1,19 @@
+use Rattle.bus.proofs.Entry.{accepted, unrefused, refused_called_on, runs_called_on}
+use Rattle.bus.specs.Calls.Call.{read_quad}
+use Rattle.bus.specs.Calls.{steps_of, lengths_of, too_long, refusal}
+use Rattle.access.proofs.Sequence.{begun_sound}
+use mathlib.Core.Path.{refl}
+use borrow.Author.Rules.{rules}
+use Rattle.bus.proofs.quad_spi_bus.read_quad.Goals as goal
+
+pub returns-then-refused-ne0 : goal.returns-then-refused-ne0
+unfolding refusal too_long lengths_of steps_of
+returns-then-refused-ne0 c = refused_called_on (read_quad _ _ _ _ _) _ _ c.refused-refused.ensures refl c.if-refused-ne0.true c.new.ensures c.ended-begun.ensures
+
+pub read_quad-requires : goal.read_quad-requires
+read_quad-requires c = let ok = accepted c.refused-refused.ensures c.if-refused-ne0.false in
+    (begun_sound (unrefused c.if-refused-ne0.false c.new.ensures c.ended-begun.ensures), (ok.0, ok.1))
+
+pub returns : goal.returns
+unfolding refusal too_long lengths_of steps_of
+returns c = runs_called_on (read_quad _ _ _ _ _) _ _ c.refused-refused.ensures refl c.if-refused-ne0.false c.new.ensures c.ended-begun.ensures c.read_quad.ensures

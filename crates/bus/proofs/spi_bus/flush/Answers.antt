@@ -1,0 +1,17 @@
+use Rattle.bus.proofs.Entry.{begins, refused_called, does_called}
+use Rattle.bus.specs.Calls.Call.{flush}
+use Rattle.bus.specs.Calls.{steps_of, lengths_of, too_long, refusal}
+use mathlib.Core.Path.{refl}
+use borrow.Author.Rules.{rules}
+use Rattle.bus.proofs.spi_bus.flush.Goals as goal
+
+pub returns-then-refused-ne0 : goal.returns-then-refused-ne0
+unfolding refusal too_long lengths_of steps_of
+returns-then-refused-ne0 c = refused_called flush _ _ c.refused-refused.ensures refl c.if-refused-ne0.true c.new.ensures c.ended-begun.ensures
+
+pub wait_transfer_done-requires : goal.wait_transfer_done-requires
+wait_transfer_done-requires c = begins c.refused-refused.ensures c.if-refused-ne0.false c.new.ensures c.ended-begun.ensures
+
+pub returns : goal.returns
+unfolding refusal too_long lengths_of steps_of
+returns c = does_called flush _ _ c.refused-refused.ensures refl c.if-refused-ne0.false c.new.ensures c.ended-begun.ensures c.wait_transfer_done.ensures

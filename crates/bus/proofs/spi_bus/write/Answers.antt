@@ -1,0 +1,19 @@
+use Rattle.bus.proofs.Entry.{accepted, unrefused, refused_called, does_called}
+use Rattle.bus.specs.Calls.Call.{write}
+use Rattle.bus.specs.Calls.{steps_of, lengths_of, too_long, refusal}
+use Rattle.access.proofs.Sequence.{begun_sound}
+use mathlib.Core.Path.{refl}
+use borrow.Author.Rules.{rules}
+use Rattle.bus.proofs.spi_bus.write.Goals as goal
+
+pub returns-then-refused-ne0 : goal.returns-then-refused-ne0
+unfolding refusal too_long lengths_of steps_of
+returns-then-refused-ne0 c = refused_called (write _) _ _ c.refused-refused.ensures refl c.if-refused-ne0.true c.new.ensures c.ended-begun.ensures
+
+pub tx_phase-requires : goal.tx_phase-requires
+tx_phase-requires c = let ok = accepted c.refused-refused.ensures c.if-refused-ne0.false in
+    (begun_sound (unrefused c.if-refused-ne0.false c.new.ensures c.ended-begun.ensures), (ok.0, ok.1))
+
+pub returns : goal.returns
+unfolding refusal too_long lengths_of steps_of
+returns c = does_called (write _) _ _ c.refused-refused.ensures refl c.if-refused-ne0.false c.new.ensures c.ended-begun.ensures c.tx_phase.ensures

@@ -1,0 +1,10 @@
+use mathlib.Core.Path.{sym, ◌∙◌}
+use Rattle.access.proofs.Sequence.{nothing_done}
+use borrow.Author.Rules.{rules}
+use Rattle.chain.proofs.record.set_mode.Goals as goal
+
+pub returns-in-Mode : goal.returns-in-Mode
+returns-in-Mode c = rw (sym c.from_number-found.ensures ∙ c.found-1.given.1) c.set_work_mode.ensures
+
+pub returns-in-Unknown : goal.returns-in-Unknown
+returns-in-Unknown c = rw (sym c.from_number-found.ensures ∙ c.enum_told-1.given.1) (nothing_done (search rules))

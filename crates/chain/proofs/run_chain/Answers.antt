@@ -1,0 +1,43 @@
+use mathlib.Core.Path.{◌≡◌}
+use Prim.Native.Nat.{◌-◌, ◌/◌}
+use native.Mathlib.Omega.{arith}
+use lib.ListN.{length}
+use Rattle.chain.proofs.Running.{Running, running_none, running_starts, runs_on, running_stops, running_ends, running_less, running_on}
+use borrow.Author.Rules.{rules}
+use Rattle.chain.proofs.run_chain.Goals as goal
+
+pub returns-then-words-eq0 : goal.returns-then-words-eq0
+returns-then-words-eq0 c = let a = c.args in
+    running_none a.hz a.qpi a.highest a.words.now (search rules) (search rules) (search rules)
+
+pub loop-r-init : goal.loop-r-init
+loop-r-init c = let a = c.args in
+    (search rules, running_starts a.hz a.qpi a.highest a.words.now (search rules) (omega arith) (search rules))
+
+pub record_at-r-requires : goal.record_at-r-requires
+record_at-r-requires c = (c.loop-r.invariant.1.one, omega (arith, c.loop-r.invariant.1.most))
+
+pub run_record-current-requires : goal.run_record-current-requires
+run_record-current-requires c = let a = c.args in
+    let on = c.loop-r.invariant.1 in
+    (on.sound, (search rules, runs_on a.hz a.qpi a.highest a.words.now on c.record_at-r.ensures))
+
+pub returns-then-number-ne0 : goal.returns-then-number-ne0
+returns-then-number-ne0 c = let a = c.args in
+    let on = c.loop-r.invariant.1 in
+    running_stops a.hz a.qpi a.highest a.words.now on c.record_at-r.ensures c.run_record-current.ensures c.if-number-ne0.true
+
+pub returns-then-next-eq0 : goal.returns-then-next-eq0
+returns-then-next-eq0 c = let a = c.args in
+    let on = c.loop-r.invariant.1 in
+    running_ends a.hz a.qpi a.highest a.words.now on c.record_at-r.ensures c.run_record-current.ensures c.if-next-eq0.true
+
+pub loop-r-smaller : goal.loop-r-smaller
+loop-r-smaller c = let a = c.args in
+    let on = c.loop-r.invariant.1 in
+    running_less a.hz a.qpi a.highest a.words.now on c.record_at-r.ensures c.run_record-current.ensures c.if-next-eq0.false
+
+pub loop-r-preserved : goal.loop-r-preserved
+loop-r-preserved c = let a = c.args in
+    let on = c.loop-r.invariant.1 in
+    (search rules, running_on a.hz a.qpi a.highest a.words.now on c.record_at-r.ensures c.run_record-current.ensures c.if-next-eq0.false c.run_record-current.auto.1.1.1.1.1.1.0)

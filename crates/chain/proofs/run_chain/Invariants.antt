@@ -1,0 +1,13 @@
+use mathlib.Core.Path.{◌≡◌}
+use Prim.Native.Nat.{◌-◌, ◌/◌}
+use native.Mathlib.Omega.{arith}
+use lib.ListN.{length}
+use Rattle.chain.proofs.Running.{Running, running_none, running_starts, runs_on, running_stops, running_ends, running_less, running_on}
+use borrow.Author.Rules.{rules}
+use Rattle.chain.proofs.run_chain.Given as goal
+
+abbrev pub invariant-loop-r : goal.invariant-loop-r
+invariant-loop-r l = (length l.log ≡ length l.initial.log) × Running l.hz l.qpi l.highest l.words l.limit l.answers l.initial.current l.initial.log l.initial.memory l.current l.log l.memory l.own
+
+abbrev pub decreases-loop-r : goal.decreases-loop-r
+decreases-loop-r l = length l.words / 8 - l.own

@@ -1,0 +1,6 @@
+use Rattle.changes.proofs.Changes.{changes}
+use borrow.Author.Rules.{rules}
+use Rattle.changes.proofs.modify.Goals as goal
+
+pub returns : goal.returns
+returns c = rw (← c.place-place.ensures) (c.beforehanges _ _ c.apply.ensures c.query-read.ensures c.perform.ensures)

@@ -1,0 +1,6 @@
+use Rattle.changes.proofs.Changes.{changes}
+use borrow.Author.Rules.{rules}
+use Rattle.changes.proofs.phases.set_start.Goals as goal
+
+pub returns : goal.returns
+returns c = c.beforehanges _ _ c.set_start-word.ensures c.query-read.ensures c.perform.ensures

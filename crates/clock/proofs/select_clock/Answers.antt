@@ -1,0 +1,73 @@
+-- `clock::select_clock` meets its contract. Both loops keep in `best` the lowest rank of the candidates passed. Assumes nothing.
+use mathlib.Core.Logic.{⊎_elim}
+use mathlib.Core.Path.{◌≡◌, ◌∙◌, sym, ap}
+use Prim.Native.Nat.{◌+◌, ◌-◌, ◌*◌, ◌%◌, ◌≤◌, ◌<◌}
+use borrow.Author.Rules.{rules}
+use lib.Arith.{lt_of_le-ne}
+use native.Mathlib.Nat.{add-zero}
+use native.Mathlib.Omega.{arith}
+use Rattle.clock.specs.Candidate.{candidate}
+use Rattle.clock.specs.Rank.{lowest, chosen}
+use Rattle.clock.proofs.Lowest.{settled, place_more, kind_passed, module_passed, module_scanned}
+use Rattle.clock.proofs.Places.{factor_pos, next_ahead, less_left, within}
+use Rattle.clock.proofs.select_clock.Goals as goal
+
+pub modules-init : goal.modules-init
+unfolding lowest
+modules-init c = omega arith
+
+pub places-init : goal.places-init
+places-init c = (search rules, rw add-zero c.modules.invariant.1)
+
+inside : (c : goal.Else-place-eq-PLACES) → c.places.place < 272
+inside c = lt_of_le-ne c.places.invariant.0 c.if-place-eq-PLACES.false
+
+pub factor-requires : goal.factor-requires
+factor-requires c = inside c
+
+pub nonzero_div-hz : goal.nonzero_div-hz
+nonzero_div-hz c = rw c.factor.ensures (factor_pos _)
+
+pub next_place-place-requires : goal.next_place-place-requires
+next_place-place-requires c = inside c.before.before.before.before
+
+ahead : (c : goal.After-next_place-place) →
+    (c.places.place < c.next_place-place.result) × (c.next_place-place.result ≤ 272)
+ahead c = rw c.next_place-place.ensures (next_ahead _ _ _ (inside c.before.before.before.before.before))
+
+pub places-smaller : goal.places-smaller
+places-smaller c = less_left (ahead c).0 (ahead c).1
+
+pub places-preserved : goal.places-preserved
+places-preserved c = let eligible = sym c.eligible.ensures ∙ c.if-eligible.true in
+    let divisor = c.factor.ensures in
+    let ranked = c.rank_of.ensures in
+    let more = place_more _ _ _ _ (inside c.before.before.before.before.before) eligible c.places.invariant.1 divisor ranked c.least-best.ensures in
+    ((ahead c).1, kind_passed _ _ _ _ (inside c.before.before.before.before.before) eligible more divisor c.next_place-place.ensures)
+
+pub modules-preserved : goal.modules-preserved
+modules-preserved c = (
+  omega arith,
+  ⊎_elim
+      (λ w. w.3 ∙ module_scanned _ _ _ w.2.taken w.1.inv.1)
+      (λ w. w.1 ∙ module_passed _ _ _ (sym c.eligible.ensures ∙ w.0.left) c.modules.invariant.1)
+      c.if-eligible.branch,
+)
+
+-- the outer loop is left after all modules, or at a rate that is the target
+found_lowest : (c : goal.Joined-m-eq-MODULES) →
+    c.if-m-eq-MODULES.found ≡ lowest c.args.pll c.args.target 8_704
+found_lowest c =
+    ⊎_elim
+    (λ w. w.2 ∙ rw w.0.taken at c.modules.invariant.1)
+    (λ w.
+    let m = lt_of_le-ne c.modules.invariant.0 w.0.left in
+    let place = lt_of_le-ne w.3.inv.0 w.4.left in
+    let eligible = sym w.1.ensures ∙ w.2.taken in
+    let more = place_more _ _ _ _ place eligible w.3.inv.1 w.5.ensures w.6.ensures w.7.ensures in
+    w.10 ∙ settled _ _ _ _ (within m place) more w.8.taken)
+    c.if-m-eq-MODULES.branch
+
+pub returns : goal.returns
+unfolding chosen
+returns c = c.candidate_at.ensures ∙ ap (λ n. candidate (n % 8_704)) (found_lowest c.before.before)

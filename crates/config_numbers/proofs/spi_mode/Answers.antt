@@ -1,0 +1,6 @@
+use mathlib.Core.Path.{refl}
+use borrow.Author.Rules.{rules}
+use Rattle.config_numbers.proofs.spi_mode.Goals as goal
+
+pub returns : goal.returns
+returns c = rw (c.polarity.ensures, c.phase.ensures) refl

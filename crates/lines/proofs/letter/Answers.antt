@@ -1,0 +1,7 @@
+use Rattle.lines.proofs.TextLaws.{other_letter}
+use borrow.Author.Rules.{rules}
+use Rattle.lines.proofs.letter.Goals as goal
+
+pub returns-in_default : goal.returns-in_default
+returns-in_default c = let r = c.in_default.rest in
+    other_letter _ r.0.0.0.0.1 r.0.0.0.1 r.0.0.1 r.0.1 r.1

@@ -1,0 +1,38 @@
+use native.Mathlib.Omega.{arith}
+use Rattle.lines.proofs.TextLaws.{wrote_then}
+use Rattle.lines.specs.Text.{end_line}
+use borrow.Author.Rules.{rules}
+use Rattle.lines.proofs.put_end.Goals as goal
+
+-- GONE slice_aggregate_put : tie.Need-slice-aggregate-put
+-- slice_aggregate_put c = search rules
+
+-- GONE slice_aggregate_put_2 : tie.Need-slice-aggregate-put-2
+-- slice_aggregate_put_2 c = search rules
+
+pub put-requires : goal.put-requires
+put-requires c = omega (
+      arith,
+      c.put_number-f.ensures.1,
+      c.put_number-e.ensures.1,
+      c.put_number-d.ensures.1,
+      c.put_number-c.ensures.1,
+      c.put_number-b.ensures.1,
+      c.put-a.ensures.place,
+      c.put_number-f.auto.0,
+      c.put_number-e.auto.0,
+      c.put_number-d.auto.0,
+      c.put_number-c.auto.0,
+      c.put_number-b.auto.0,
+      c.put-a.auto.0,
+      c.requires,
+    )
+
+pub returns : goal.returns
+unfolding end_line
+returns c = wrote_then c.put-a.ensures
+    (wrote_then c.put_number-b.ensures.0
+    (wrote_then c.put_number-c.ensures.0
+    (wrote_then c.put_number-d.ensures.0
+    (wrote_then c.put_number-e.ensures.0
+    (wrote_then c.put_number-f.ensures.0 c.put.ensures)))))

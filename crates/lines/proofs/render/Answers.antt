@@ -1,0 +1,6 @@
+use Rattle.lines.proofs.TextLaws.{wrote_then}
+use borrow.Author.Rules.{rules}
+use Rattle.lines.proofs.render.Goals as goal
+
+pub returns : goal.returns
+returns c = wrote_then c.put_entries-at.ensures.0 c.put_end.ensures

@@ -1,0 +1,14 @@
+use mathlib.Core.Path.{◌≡◌, refl}
+use Prim.Native.Nat.{◌-◌}
+use native.Mathlib.Omega.{arith}
+use native.Mathlib.Nat.{add-sub_cancel_left}
+use borrow.Author.Rules.{rules}
+use lib.ListN.{length}
+use Rattle.qspi.proofs.Bytes.{Writing, writing_starts, writing_more, writing_stops, writing_done, some_count}
+use Rattle.qspi.proofs.phase.write_bytes.Given as goal
+
+abbrev pub invariant-loop-idx : goal.invariant-loop-idx
+invariant-loop-idx l = (length l.log ≡ length l.initial.log) × Writing l.buf l.limit l.answers l.initial.current l.initial.log l.current l.log l.idx
+
+abbrev pub decreases-loop-idx : goal.decreases-loop-idx
+decreases-loop-idx l = length l.buf - l.idx

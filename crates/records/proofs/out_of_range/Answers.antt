@@ -1,0 +1,17 @@
+use mathlib.Core.Bool.{or-false}
+use Rattle.records.specs.Check.{out_of_range}
+use Rattle.records.proofs.KindLaws.{no_caps}
+use borrow.Author.Rules.{rules}
+use Rattle.records.proofs.out_of_range.Goals as goal
+
+pub returns-in-7 : goal.returns-in-7
+unfolding out_of_range
+returns-in-7 c = simp (c.in-7.keys1, or-false)
+
+pub returns-in-8 : goal.returns-in-8
+unfolding out_of_range
+returns-in-8 c = simp (c.in-8.keys2, or-false)
+
+pub returns-in_default : goal.returns-in_default
+unfolding out_of_range
+returns-in_default c = simp (no_caps _ c.in_default.rest.0.1 c.in_default.rest.1)

@@ -1,0 +1,6 @@
+use Rattle.records.proofs.KindLaws.{record_words}
+use borrow.Author.Rules.{rules}
+use Rattle.records.proofs.record_at.Goals as goal
+
+pub returns : goal.returns
+returns c = record_words _ _ c.requires.0 c.requires.1

@@ -1,0 +1,6 @@
+use borrow.Author.Rules.{rules}
+use Rattle.registers.proofs.Field.{shifted_in}
+use Rattle.registers.proofs.controller.TransMiscControl.enable_dual.Goals as goal
+
+pub returns : goal.returns
+returns c = shifted_in 3 1 28 _ 1 (search rules)

@@ -1,0 +1,10 @@
+use native.Mathlib.Omega.{arith}
+use borrow.Author.Rules.{rules}
+use Rattle.replay.proofs.Prefix.{counts}
+use Rattle.replay.proofs.fields.log_words.Goals as goal
+
+pub returns-then-n-log : goal.returns-then-n-log
+returns-then-n-log c = c.beforeounts _ _ (omega arith)
+
+pub returns-else-n-log : goal.returns-else-n-log
+returns-else-n-log c = c.beforeounts _ _ c.if-n-log.false
