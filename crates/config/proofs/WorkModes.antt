@@ -10,6 +10,7 @@ use Rattle.config.specs.Config.{mode_at}
 -- within the list it is the element
 pub within : (ms : List WorkMode) (n : ℕ) (other : WorkMode) → n < length ms → Mode (get_or ms n other) ≡ mode_at ms n
 unfolding mode_at
+within [] n other h = elim h [ ]
 within (m ∷ ms) zero other h = refl
 within (m ∷ ms) (suc n) other (suc-le-suc h) = within ms n other h
 
@@ -17,4 +18,5 @@ within (m ∷ ms) (suc n) other (suc-le-suc h) = within ms n other h
 pub past_end : (ms : List WorkMode) (n : ℕ) → length ms ≤ n → Unknown ≡ mode_at ms n
 unfolding mode_at
 past_end [] n h = refl
+past_end (m ∷ ms) zero h = elim h [ ]
 past_end (m ∷ ms) (suc n) (suc-le-suc h) = past_end ms n h

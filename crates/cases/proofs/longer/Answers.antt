@@ -11,13 +11,14 @@ unfolding step
 returns-then-d-base c = rw (← c.digit-d.ensures) (simp (le-leb _ _ c.if-d-base.true), search rules)
 
 pub overflow_mul-next : goal.overflow_mul-next
-overflow_mul-next c = record { fits = omega (arith, mul-le-mul c.requires.0 c.requires.1) }
+overflow_mul-next c = record { fits = omega (arith, mul-le-mul c.requires.value_bound c.requires.base_bound) }
 
 pub overflow_add-next : goal.overflow_add-next
-overflow_add-next c = record { fits = omega (arith, mul-le-mul c.requires.0 c.requires.1) }
+overflow_add-next c = record { fits = omega (arith, mul-le-mul c.requires.value_bound c.requires.base_bound) }
 
 pub returns-then-next-gt-NO_NUMBER : goal.returns-then-next-gt-NO_NUMBER
-returns-then-next-gt-NO_NUMBER c = (step_more _ _ _ _ _ c.digit-d.ensures c.if-d-base.false (omega arith), search rules)
+returns-then-next-gt-NO_NUMBER c = record { value = step_more _ _ _ _ _ c.digit-d.ensures c.if-d-base.false (omega arith); upper_bound = search rules }
 
 pub returns-else-next-gt-NO_NUMBER : goal.returns-else-next-gt-NO_NUMBER
-returns-else-next-gt-NO_NUMBER c = (step_more _ _ _ _ _ c.digit-d.ensures c.if-d-base.false (omega arith), search rules)
+returns-else-next-gt-NO_NUMBER c = record { value = step_more _ _ _ _ _ c.digit-d.ensures c.if-d-base.false (omega arith); upper_bound = search rules }
+

@@ -11,7 +11,7 @@ loop-i-init c = (search rules, search rules, refl)
 
 pub loop-i-preserved : goal.loop-i-preserved
 loop-i-preserved c = let l = c.loop-i in
-    (search rules, c.longer-value.ensures.1, rw c.longer-value.ensures.0 (sym (value_next _ _ _ _ c.loop-i-test.true) ∙ l.invariant.2))
+    (search rules, c.longer-value.ensures.upper_bound, rw c.longer-value.ensures.value (sym (value_next _ _ _ _ c.loop-i-test.true) ∙ l.invariant.2))
 
 pub returns : goal.returns
 returns c = let l = c.loop-i in

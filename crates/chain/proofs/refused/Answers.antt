@@ -9,7 +9,7 @@ unfolding refusal
 returns-then-limit-eq0 c = rw c.if-limit-eq0.true refl
 
 pub returns-in-Fine : goal.returns-in-Fine
-returns-in-Fine c = refused_by _ (search rules) (sym c.enum_told-1.given.1 ∙ c.check-found.ensures)
+returns-in-Fine c = refused_by _ (search rules) (sym c.in-Fine.is ∙ c.check-found.ensures)
 
 pub returns-in-Fault : goal.returns-in-Fault
-returns-in-Fault c = refused_by _ (search rules) (sym c.found-1.given.1 ∙ c.check-found.ensures)
+returns-in-Fault c = refused_by _ (search rules) (sym c.in-Fault.is ∙ c.check-found.ensures)

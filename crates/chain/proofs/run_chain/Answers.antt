@@ -15,7 +15,7 @@ loop-r-init c = let a = c.args in
     (search rules, running_starts a.hz a.qpi a.highest a.words.now (search rules) (omega arith) (search rules))
 
 pub record_at-r-requires : goal.record_at-r-requires
-record_at-r-requires c = (c.loop-r.invariant.1.one, omega (arith, c.loop-r.invariant.1.most))
+record_at-r-requires c = record { le_own = c.loop-r.invariant.1.one; own_in_bounds = omega (arith, c.loop-r.invariant.1.most) }
 
 pub run_record-current-requires : goal.run_record-current-requires
 run_record-current-requires c = let a = c.args in

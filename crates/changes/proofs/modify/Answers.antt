@@ -3,4 +3,4 @@ use borrow.Author.Rules.{rules}
 use Rattle.changes.proofs.modify.Goals as goal
 
 pub returns : goal.returns
-returns c = rw (← c.place-place.ensures) (c.beforehanges _ _ c.apply.ensures c.query-read.ensures c.perform.ensures)
+returns c = rw (← c.place-place.ensures) (changes _ _ c.apply.ensures c.query-read.ensures c.perform.ensures)

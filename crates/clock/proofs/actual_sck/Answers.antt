@@ -14,11 +14,11 @@ pub nonzero_div-result-in-Cdr2 : goal.nonzero_div-result-in-Cdr2
 nonzero_div-result-in-Cdr2 c = rw c.factor-in-Cdr2.ensures (factor_pos _)
 
 pub returns-then-c-gt15 : goal.returns-then-c-gt15
-returns-then-c-gt15 c = simp (le-ltb _ _ c.if-mod_div-gt31.false, c.divider-1.given.1, lt-ltb _ _ c.if-c-gt15.true)
+returns-then-c-gt15 c = simp (le-ltb _ _ c.if-mod_div-gt31.false, c.in-Cdr1.is, lt-ltb _ _ c.if-c-gt15.true)
 
 pub returns-else-c-gt15 : goal.returns-else-c-gt15
 returns-else-c-gt15 c = let small = c.if-c-gt15.false in
-    simp (le-ltb _ _ c.if-mod_div-gt31.false, c.divider-1.given.1, c.factor.ensures, le-ltb _ _ small, cdr1_factor _ small)
+    simp (le-ltb _ _ c.if-mod_div-gt31.false, c.in-Cdr1.is, c.factor.ensures, le-ltb _ _ small, cdr1_factor _ small)
 
 pub returns-in-Cdr2 : goal.returns-in-Cdr2
-returns-in-Cdr2 c = simp (le-ltb _ _ c.if-mod_div-gt31.false, c.divider-in-Cdr2-1.given.1, c.factor-in-Cdr2.ensures, cdr2_factor)
+returns-in-Cdr2 c = simp (le-ltb _ _ c.if-mod_div-gt31.false, c.in-Cdr2.is, c.factor-in-Cdr2.ensures, cdr2_factor)

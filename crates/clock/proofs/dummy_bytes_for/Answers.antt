@@ -5,4 +5,4 @@ use Rattle.clock.proofs.Product.{product_fits}
 use Rattle.clock.proofs.dummy_bytes_for.Goals as goal
 
 pub overflow_add-total : goal.overflow_add-total
-overflow_add-total c = omega (arith, product_fits c.args.tclqv-ns c.args.hz (search rules) (search rules))
+overflow_add-total c = omega (arith, product_fits c.args.tclqv_ns c.args.hz (search rules) (search rules))

@@ -1,5 +1,4 @@
 -- `clock::select_clock` meets its contract. Both loops keep in `best` the lowest rank of the candidates passed. Assumes nothing.
-use mathlib.Core.Logic.{⊎_elim}
 use mathlib.Core.Path.{◌≡◌, ◌∙◌, sym, ap}
 use Prim.Native.Nat.{◌+◌, ◌-◌, ◌*◌, ◌%◌, ◌≤◌, ◌<◌}
 use borrow.Author.Rules.{rules}
@@ -11,6 +10,7 @@ use Rattle.clock.specs.Rank.{lowest, chosen}
 use Rattle.clock.proofs.Lowest.{settled, place_more, kind_passed, module_passed, module_scanned}
 use Rattle.clock.proofs.Places.{factor_pos, next_ahead, less_left, within}
 use Rattle.clock.proofs.select_clock.Goals as goal
+use Rattle.clock.proofs.select_clock.Goals.{then-eligible+then-place-eq-PLACES, else-eligible, then-m-eq-MODULES, else-m-eq-MODULES+then-eligible+else-place-eq-PLACES+then-best-lt-CANDIDATES}
 
 pub modules-init : goal.modules-init
 unfolding lowest
@@ -48,26 +48,24 @@ places-preserved c = let eligible = sym c.eligible.ensures ∙ c.if-eligible.tru
 pub modules-preserved : goal.modules-preserved
 modules-preserved c = (
   omega arith,
-  ⊎_elim
-      (λ w. w.3 ∙ module_scanned _ _ _ w.2.taken w.1.inv.1)
-      (λ w. w.1 ∙ module_passed _ _ _ (sym c.eligible.ensures ∙ w.0.left) c.modules.invariant.1)
-      c.if-eligible.branch,
+  elim c.if-eligible.branch [
+    then-eligible+then-place-eq-PLACES w ↦ w.best-is ∙ module_scanned _ _ _ w.if-place-eq-PLACES.true w.places.invariant.1
+    | else-eligible w ↦ w.best-is ∙ module_passed _ _ _ (sym c.eligible.ensures ∙ w.if-eligible.false) c.modules.invariant.1
+  ],
 )
 
 -- the outer loop is left after all modules, or at a rate that is the target
-found_lowest : (c : goal.Joined-m-eq-MODULES) →
-    c.if-m-eq-MODULES.found ≡ lowest c.args.pll c.args.target 8_704
-found_lowest c =
-    ⊎_elim
-    (λ w. w.2 ∙ rw w.0.taken at c.modules.invariant.1)
-    (λ w.
-    let m = lt_of_le-ne c.modules.invariant.0 w.0.left in
-    let place = lt_of_le-ne w.3.inv.0 w.4.left in
-    let eligible = sym w.1.ensures ∙ w.2.taken in
-    let more = place_more _ _ _ _ place eligible w.3.inv.1 w.5.ensures w.6.ensures w.7.ensures in
-    w.10 ∙ settled _ _ _ _ (within m place) more w.8.taken)
-    c.if-m-eq-MODULES.branch
-
 pub returns : goal.returns
 unfolding chosen
-returns c = c.candidate_at.ensures ∙ ap (λ n. candidate (n % 8_704)) (found_lowest c.before.before)
+returns c =
+    let found : c.if-m-eq-MODULES.found ≡ lowest c.args.pll c.args.target 8_704 =
+      elim c.if-m-eq-MODULES.branch [
+        then-m-eq-MODULES w ↦ w.found-is ∙ rw w.if-m-eq-MODULES.true at c.modules.invariant.1
+        | else-m-eq-MODULES+then-eligible+else-place-eq-PLACES+then-best-lt-CANDIDATES w ↦
+          let m = lt_of_le-ne c.modules.invariant.0 w.if-m-eq-MODULES.false in
+          let place = lt_of_le-ne w.places.invariant.0 w.if-place-eq-PLACES.false in
+          let eligible = sym w.eligible.ensures ∙ w.if-eligible.true in
+          let more = place_more _ _ _ _ place eligible w.places.invariant.1 w.factor.ensures w.rank_of.ensures w.least-best.ensures in
+          w.found-is ∙ settled _ _ _ _ (within m place) more w.if-best-lt-CANDIDATES.true
+      ] in
+    c.candidate_at.ensures ∙ ap (λ n. candidate (n % 8_704)) found

@@ -8,17 +8,17 @@ use Rattle.clock_numbers.proofs.Rates.{gives, far_module}
 use Rattle.clock_numbers.proofs.actual_sck.Goals as goal
 
 pub returns-then-mod_div-gt255 : goal.returns-then-mod_div-gt255
-returns-then-mod_div-gt255 c = gives (far_module c.args.pll c.args.mod-div (divider_of c.args.kind c.args.count) (omega arith))
+returns-then-mod_div-gt255 c = gives (far_module c.args.pll c.args.mod_div (divider_of c.args.kind c.args.count) (omega arith))
 
 pub returns-in_default : goal.returns-in_default
-returns-in_default c = gives (ap (rate_of _ _) (sym c.divider_of-found.ensures ∙ c.enum_told-1.given.1))
+returns-in_default c = gives (ap (rate_of _ _) (sym c.divider_of-found.ensures ∙ c.in_default.is))
 
 -- the divider that was found
-selected : (c : goal.In-Select-2) → divider_of c.args.kind c.args.count ≡ Select c.found-1.given.0.0
-selected c = sym c.divider_of-found.ensures ∙ c.found-1.given.1
+selected : (c : goal.In-Select-2) → divider_of c.args.kind c.args.count ≡ Select c.in-Select.divider
+selected c = sym c.divider_of-found.ensures ∙ c.in-Select.is
 
 pub returns-in_default-sck : goal.returns-in_default-sck
-returns-in_default-sck c = gives (ap (rate_of _ _) (selected c.before.before.before.before) ∙ sym c.actual_sck-sck.ensures ∙ ap answer c.enum_told-in_default-sck-1.given.1)
+returns-in_default-sck c = gives (ap (rate_of _ _) (selected c.before.before.before.before) ∙ sym c.actual_sck-sck.ensures ∙ ap answer c.in_default-sck.is)
 
 pub returns : goal.returns
-returns c = gives (ap (rate_of _ _) (selected c.before.before.before.before.before) ∙ sym c.actual_sck-sck.ensures ∙ ap answer c.sck-1.given.1)
+returns c = gives (ap (rate_of _ _) (selected c.before.before.before.before.before) ∙ sym c.actual_sck-sck.ensures ∙ ap answer c.in-Rate.is)

@@ -13,11 +13,11 @@ use Rattle.lines.proofs.put_end.Goals as goal
 pub put-requires : goal.put-requires
 put-requires c = omega (
       arith,
-      c.put_number-f.ensures.1,
-      c.put_number-e.ensures.1,
-      c.put_number-d.ensures.1,
-      c.put_number-c.ensures.1,
-      c.put_number-b.ensures.1,
+      c.put_number-f.ensures.upper_bound,
+      c.put_number-e.ensures.upper_bound,
+      c.put_number-d.ensures.upper_bound,
+      c.put_number-c.ensures.upper_bound,
+      c.put_number-b.ensures.upper_bound,
       c.put-a.ensures.place,
       c.put_number-f.auto.0,
       c.put_number-e.auto.0,
@@ -31,8 +31,8 @@ put-requires c = omega (
 pub returns : goal.returns
 unfolding end_line
 returns c = wrote_then c.put-a.ensures
-    (wrote_then c.put_number-b.ensures.0
-    (wrote_then c.put_number-c.ensures.0
-    (wrote_then c.put_number-d.ensures.0
-    (wrote_then c.put_number-e.ensures.0
-    (wrote_then c.put_number-f.ensures.0 c.put.ensures)))))
+    (wrote_then c.put_number-b.ensures.wrote
+    (wrote_then c.put_number-c.ensures.wrote
+    (wrote_then c.put_number-d.ensures.wrote
+    (wrote_then c.put_number-e.ensures.wrote
+    (wrote_then c.put_number-f.ensures.wrote c.put.ensures)))))

@@ -3,4 +3,4 @@ use borrow.Author.Rules.{rules}
 use Rattle.lines.proofs.render.Goals as goal
 
 pub returns : goal.returns
-returns c = wrote_then c.put_entries-at.ensures.0 c.put_end.ensures
+returns c = wrote_then c.put_entries-at.ensures.wrote c.put_end.ensures

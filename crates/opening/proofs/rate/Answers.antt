@@ -3,7 +3,7 @@ use borrow.Author.Rules.{rules}
 use Rattle.opening.proofs.rate.Goals as goal
 
 pub returns-in-Rate : goal.returns-in-Rate
-returns-in-Rate c = rw c.hz-1.given.1 at (ap (λ a. a.hz) c.actual_sck.ensures)
+returns-in-Rate c = rw c.in-Rate.is at (ap (λ a. a.hz) c.actual_sck.ensures)
 
 pub returns-in-NoDivider : goal.returns-in-NoDivider
-returns-in-NoDivider c = rw c.enum_told-1.given.1 at (ap (λ a. a.hz) c.actual_sck.ensures)
+returns-in-NoDivider c = rw c.in-NoDivider.is at (ap (λ a. a.hz) c.actual_sck.ensures)

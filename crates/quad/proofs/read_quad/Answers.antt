@@ -6,4 +6,4 @@ pub read_framed-requires : goal.read_framed-requires
 read_framed-requires c = (search rules, (search rules, (search rules, frame_fits c.quad_frame-framed.ensures)))
 
 pub returns : goal.returns
-returns c = rw (← c.dummy_bytes_for-dummies.ensures, ← c.before.before.before.before.before.before.before.before_sent c.quad_frame-framed.ensures) c.read_framed.ensures
+returns c = rw (← c.dummy_bytes_for-dummies.ensures, ← c_sent c.quad_frame-framed.ensures) c.read_framed.ensures

@@ -6,11 +6,11 @@ use Rattle.records.proofs.out_of_range.Goals as goal
 
 pub returns-in-7 : goal.returns-in-7
 unfolding out_of_range
-returns-in-7 c = simp (c.in-7.keys1, or-false)
+returns-in-7 c = simp (c.in-7.is, or-false)
 
 pub returns-in-8 : goal.returns-in-8
 unfolding out_of_range
-returns-in-8 c = simp (c.in-8.keys2, or-false)
+returns-in-8 c = simp (c.in-8.is, or-false)
 
 pub returns-in_default : goal.returns-in_default
 unfolding out_of_range

@@ -3,4 +3,4 @@ use borrow.Author.Rules.{rules}
 use Rattle.records.proofs.record_at.Goals as goal
 
 pub returns : goal.returns
-returns c = record_words _ _ c.requires.0 c.requires.1
+returns c = record_words _ _ c.requires.le_own c.requires.own_in_bounds

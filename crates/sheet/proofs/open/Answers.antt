@@ -19,4 +19,4 @@ returns-then-qpi-gt1 c = refuse _ (λ a. omega arith)
 pub returns : goal.returns
 returns c = let bs = c.args.bytes.now in
     let ok : Accepted bs = omega arith in
-    c.beforec (accept bs ok)
+    cc (accept bs ok)

@@ -4,7 +4,7 @@ use borrow.Author.Rules.{rules}
 use Rattle.sheet_run.proofs.run.Goals as goal
 
 pub run_opened-requires : goal.run_opened-requires
-run_opened-requires c = heads _ _ (sym c.open-opened.ensures ∙ c.opened-1.given.1)
+run_opened-requires c = heads _ _ (sym c.open-opened.ensures ∙ c.in-Accepted.is)
 
 pub returns-in-Refused : goal.returns-in-Refused
-returns-in-Refused c = sheet_refused _ _ (sym c.open-opened.ensures ∙ c.enum_told-1.given.1) c.new.ensures c.ended.ensures
+returns-in-Refused c = sheet_refused _ _ (sym c.open-opened.ensures ∙ c.in-Refused.is) c.new.ensures c.ended.ensures

@@ -7,7 +7,7 @@ use Rattle.sheet_run.proofs.Sheets.{held_count, held_front, held_behind, sheet_r
 use Rattle.sheet_run.proofs.run_words.Goals as goal
 
 pub slice_bounds-transact-count : goal.slice_bounds-transact-count
-slice_bounds-transact-count c = omega (arith, held_count (8 * c.args.h.records) c.args.h.answers c.args.bytes.now c.requires.1)
+slice_bounds-transact-count c = omega (arith, held_count (8 * c.args.h.records) c.args.h.answers c.args.bytes.now c.requires.words_value)
 
 -- GONE part_transact_start : tie.Need-slice-bounds-transact-start
 -- part_transact_start c = let start = c.before.before.before.before.before.before in omega (arith, held_count (8 * start.args.h.records) start.args.h.answers start.args.bytes.now start.requires.1)

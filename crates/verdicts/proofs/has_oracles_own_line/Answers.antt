@@ -14,17 +14,17 @@ loop-at-init c = (search rules, refl)
 
 pub returns-then-oracles_own_line : goal.returns-then-oracles_own_line
 returns-then-oracles_own_line c = let l = c.loop-at in
-    sym (c.before.before.before.beforeound_here _ _ _ c.find-end.ensures.0 (sym c.oracles_own_line.ensures ∙ c.if-oracles_own_line.true)) ∙ l.invariant.1
+    sym (cound_here _ _ _ c.find-end.ensures.place (sym c.oracles_own_line.ensures ∙ c.if-oracles_own_line.true)) ∙ l.invariant.1
 
 pub returns-then-end-answer : goal.returns-then-end-answer
 returns-then-end-answer c = let l = c.loop-at in
-    sym (c.before.before.before.before.beforeound_last _ _ _ c.find-end.ensures.0 (sym c.oracles_own_line.ensures ∙ c.if-oracles_own_line.false) c.if-end-answer.true) ∙ l.invariant.1
+    sym (cound_last _ _ _ c.find-end.ensures.place (sym c.oracles_own_line.ensures ∙ c.if-oracles_own_line.false) c.if-end-answer.true) ∙ l.invariant.1
 
 pub loop-at-preserved : goal.loop-at-preserved
 loop-at-preserved c = let l = c.loop-at in (
       search rules,
-      sym (c.before.before.before.before.beforeound_later _ _ _ c.find-end.ensures.0 (sym c.oracles_own_line.ensures ∙ c.if-oracles_own_line.false)
-          c.loop-at-test.true c.find-end.ensures.1 c.if-end-answer.false) ∙ l.invariant.1,
+      sym (cound_later _ _ _ c.find-end.ensures.place (sym c.oracles_own_line.ensures ∙ c.if-oracles_own_line.false)
+          c.loop-at-test.true c.find-end.ensures.bounds c.if-end-answer.false) ∙ l.invariant.1,
     )
 
 pub returns : goal.returns

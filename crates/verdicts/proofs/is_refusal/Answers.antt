@@ -25,7 +25,7 @@ returns-then-not-refusal_line c = sym (refused_not _ _ f.find.ensures.0 (sym f.b
 -- slice_aggregate_same_2 c = search rules
 
 pub returns-then-same-2 : goal.returns-then-same-2
-returns-then-same-2 c = sym (refused_alone _ _ c.find-line.ensures.0 (sym c.same.ensures ∙ c.if-same.false) (sym c.refusal_line.ensures ∙ c.before.before.before.before.beforeot-false _ c.if-not-refusal_line.false)
+returns-then-same-2 c = sym (refused_alone _ _ c.find-line.ensures.place (sym c.same.ensures ∙ c.if-same.false) (sym c.refusal_line.ensures ∙ cot-false _ c.if-not-refusal_line.false)
     (sym c.same-2.ensures ∙ c.if-same-2.true))
 
 -- GONE part_same_start_2 : tie.Need-slice-bounds-same-start-2
@@ -39,5 +39,5 @@ returns-then-same-2 c = sym (refused_alone _ _ c.find-line.ensures.0 (sym c.same
 
 pub returns : goal.returns
 returns c = c.same-3.ensures
-    ∙ c.before.before.before.beforeym (refused_rate _ _ c.find-line.ensures.0 (c.before.before.before.beforeym c.same.ensures ∙ c.if-same.false) (c.before.before.before.beforeym c.refusal_line.ensures ∙ c.before.before.before.before.before.before.before.beforeot-false _ c.if-not-refusal_line.false)
-    (c.before.before.before.beforeym c.same-2.ensures ∙ c.if-same-2.false))
+    ∙ cym (refused_rate _ _ c.find-line.ensures.place (cym c.same.ensures ∙ c.if-same.false) (cym c.refusal_line.ensures ∙ cot-false _ c.if-not-refusal_line.false)
+    (cym c.same-2.ensures ∙ c.if-same-2.false))

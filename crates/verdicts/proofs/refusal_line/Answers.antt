@@ -13,7 +13,7 @@ slice_bounds-same-end c = simp length-take (omega arith)
 -- slice_aggregate_same_2 c = search rules
 
 pub returns-then-not-same : goal.returns-then-not-same
-returns-then-not-same c = c.before.beforeym (end_other _ c.if-line-lt13.false (c.before.beforeym c.same.ensures ∙ not-true _ c.if-not-same.true))
+returns-then-not-same c = cym (end_other _ c.if-line-lt13.false (cym c.same.ensures ∙ not-true _ c.if-not-same.true))
 
 -- GONE part_same_start : tie.Need-slice-bounds-same-start
 -- part_same_start c = search rules
@@ -25,8 +25,8 @@ returns-then-not-same c = c.before.beforeym (end_other _ c.if-line-lt13.false (c
 -- slice_aggregate_same_3 c = search rules
 
 pub returns-then-not-same-2 : goal.returns-then-not-same-2
-returns-then-not-same-2 c = c.before.before.before.before.before.beforeym (end_counted _ _ refl c.if-line-lt13.false (c.before.before.before.before.before.beforeym c.same.ensures ∙ not-false _ c.if-not-same.false)
-    (c.before.before.before.before.before.beforeym c.same-2.ensures ∙ not-true _ c.if-not-same-2.true))
+returns-then-not-same-2 c = cym (end_counted _ _ refl c.if-line-lt13.false (cym c.same.ensures ∙ not-false _ c.if-not-same.false)
+    (cym c.same-2.ensures ∙ not-true _ c.if-not-same-2.true))
 
 -- GONE part_number_start : tie.Need-slice-bounds-number-start
 -- part_number_start c = search rules
@@ -36,5 +36,5 @@ returns-then-not-same-2 c = c.before.before.before.before.before.beforeym (end_c
 
 pub returns : goal.returns
 returns c = c.refuses.ensures
-    ∙ c.before.before.before.before.before.before.before.before.beforeym (end_number _ _ _ refl c.if-line-lt13.false (c.before.before.before.before.before.before.before.before.beforeym c.same.ensures ∙ not-false _ c.if-not-same.false)
-    (c.before.before.before.before.before.before.before.before.beforeym c.same-2.ensures ∙ not-false _ c.if-not-same-2.false) c.number.ensures)
+    ∙ cym (end_number _ _ _ refl c.if-line-lt13.false (cym c.same.ensures ∙ not-false _ c.if-not-same.false)
+    (cym c.same-2.ensures ∙ not-false _ c.if-not-same-2.false) c.number.ensures)

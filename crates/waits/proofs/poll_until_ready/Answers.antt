@@ -24,7 +24,7 @@ log_kept : (c.before : goal.Else-after-ne0)
 log_kept c.before = search rules
 
 pub counted-requires : goal.counted-requires
-counted-requires c = (omega (arith, c.query-read.ensures.rises c.if-after-ne0.false), omega (arith, c.loop-cause.invariant.1.below))
+counted-requires c = record { polls_bound = omega (arith, c.query-read.ensures.rises c.if-after-ne0.false); before_bound = omega (arith, c.loop-cause.invariant.1.below) }
 
 pub overflow_add-unready : goal.overflow_add-unready
 overflow_add-unready c = record { fits = one_more c.before.before.before.before.before.before }

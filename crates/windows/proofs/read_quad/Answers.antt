@@ -15,12 +15,12 @@ use Rattle.windows.proofs.read_quad.Goals as goal
 
 pub read_framed-requires : goal.read_framed-requires
 read_framed-requires c = let start = frame.before.before.before.before.before.before.before in
-    (search rules, (search rules, (simp (length-take, length-drop) (omega (arith, start.requires)), c.before.before.before.before_fits c.quad_frame-framed.ensures)))
+    (search rules, (search rules, (simp (length-take, length-drop) (omega (arith, start.requires)), c_fits c.quad_frame-framed.ensures)))
 
 pub returns : goal.returns
 unfolding read_quad_windows
 returns c = rw add-sub_cancel_left
     (looks_runs _
     (quad_window _ _ command.before.before.before.before.before.before.requires.1.1.1.0 _
-    (rw (c.before.before.before.before.before.before.before.before.before_sent c.quad_frame-framed.ensures, c.window.ensures, command.before.before.dummy-bytes-for.ensures, add-sub_cancel_left)
+    (rw (c_sent c.quad_frame-framed.ensures, c.window.ensures, command.before.before.dummy-bytes-for.ensures, add-sub_cancel_left)
     at c.read_framed.ensures)))

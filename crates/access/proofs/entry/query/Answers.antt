@@ -11,7 +11,7 @@ returns-then-log-entries c = rw c.ended-then-log-entries.ensures (ask_ten _ _ (s
 
 pub returns-then-not-next : goal.returns-then-not-next
 returns-then-not-next c = rw c.ended-then-not-next.ensures
-    (ask_eleven _ _ (search rules) _ _ c.if-number-ne0.false c.if-log-entries.false c.read_next-next.ensures c.if-not-next.true)
+    (ask_eleven _ _ (search rules) _ _ c.if-number-ne0.false c.if-log-entries.false c.read_next-next.ensures.next c.if-not-next.true)
 
 pub log_entry-requires : goal.log_entry-requires
 log_entry-requires c = c.if-log-entries.false
@@ -21,4 +21,4 @@ overflow_add-entries c = omega (arith, c.if-log-entries.false)
 
 pub returns : goal.returns
 returns c = rw c.entered.ensures
-    (ask_entered _ _ (search rules) _ _ _ c.if-number-ne0.false c.if-log-entries.false c.read_next-next.ensures c.if-not-next.false c.log_entry.ensures (search rules) (search rules))
+    (ask_entered _ _ (search rules) _ _ _ c.if-number-ne0.false c.if-log-entries.false c.read_next-next.ensures.next c.if-not-next.false c.log_entry.ensures (search rules) (search rules))

@@ -12,22 +12,22 @@ write-requires c = let start = first.before.before.before.before in
     (search rules, (search rules, rw first.span.ensures (w.0.0, w.0.1 refl)))
 
 pub read-requires : goal.read-requires
-read-requires c = let w = windows_in _ _ 2 c.in-2.keys2 c.requires.1.1.0 in
+read-requires c = let w = windows_in _ _ 2 c.in-2.is c.requires.limit_nonzero.1.0 in
     (search rules, (search rules, rw c.span-first.ensures (w.0.0, w.0.1 refl)))
 
 pub transfer-requires : goal.transfer-requires
-transfer-requires c = let w = windows_in _ _ 3 c.in-3.keys3 c.requires.1.1.0 in
+transfer-requires c = let w = windows_in _ _ 3 c.in-3.is c.requires.limit_nonzero.1.0 in
     (search rules, (search rules, (rw c.span-first.ensures (w.0.0, w.0.1 refl), rw c.span.ensures (w.1.0.0, w.1.0.1 refl))))
 
 pub transfer_in_place-requires : goal.transfer_in_place-requires
-transfer_in_place-requires c = let w = windows_in _ _ 4 c.in-4.keys4 c.requires.1.1.0 in
+transfer_in_place-requires c = let w = windows_in _ _ 4 c.in-4.is c.requires.limit_nonzero.1.0 in
     (search rules, (search rules, rw c.span-first.ensures w.0.0))
 
 pub overflow_cast-r : goal.overflow_cast-r
-overflow_cast-r c = omega (arith, margin_fits _ c.in-8.keys8 c.requires.1.1.1)
+overflow_cast-r c = omega (arith, margin_fits _ c.in-8.is c.requires.limit_nonzero.1.1)
 
 pub read_quad-requires : goal.read_quad-requires
-read_quad-requires c = let w = windows_in _ _ 8 c.in-8.keys8 c.requires.1.1.0 in
+read_quad-requires c = let w = windows_in _ _ 8 c.in-8.is c.requires.limit_nonzero.1.0 in
     (search rules, (search rules, (rw c.span-first.ensures w.0.0, rw c.span-in-8.ensures (w.1.0.0, w.1.0.1 refl))))
 
 pub write_quad-requires : goal.write_quad-requires
@@ -41,31 +41,31 @@ returns-in-1 c = let a = at.before.before.before.before.before.args in
 
 pub returns-in-2 : goal.returns-in-2
 returns-in-2 c = let a = c.args in
-    by_kind a.hz a.qpi a.t8 2 c.in-2.keys2 (rw c.span-first.ensures c.before.before.before.before.before.before.before.before c.read.ensures)
+    by_kind a.hz a.qpi a.t8 2 c.in-2.is (rw c.span-first.ensures c.before.before.before.before.before.before.before.before c.read.ensures)
 
 pub returns-in-3 : goal.returns-in-3
 returns-in-3 c = let a = c.args in
-    by_kind a.hz a.qpi a.t8 3 c.in-3.keys3 (rw (c.span-first.ensures, c.span.ensures) c.before.before.before.before.before.before.before.before.before c.transfer.ensures)
+    by_kind a.hz a.qpi a.t8 3 c.in-3.is (rw (c.span-first.ensures, c.span.ensures) c.before.before.before.before.before.before.before.before.before c.transfer.ensures)
 
 pub returns-in-4 : goal.returns-in-4
 returns-in-4 c = let a = c.args in
-    by_kind a.hz a.qpi a.t8 4 c.in-4.keys4 (rw c.span-first.ensures c.before.before.before.before.before.before.before.before c.transfer_in_place.ensures)
+    by_kind a.hz a.qpi a.t8 4 c.in-4.is (rw c.span-first.ensures c.before.before.before.before.before.before.before.before c.transfer_in_place.ensures)
 
 pub returns-in-5 : goal.returns-in-5
 returns-in-5 c = let a = c.args in
-    by_kind a.hz a.qpi a.t8 5 c.in-5.keys5 (does_runs ((acts_works (rw c.delay_cycles.ensures c.before.before.before.before.before.before c.perform.ensures)).does _) _)
+    by_kind a.hz a.qpi a.t8 5 c.in-5.is (does_runs ((acts_works (rw c.delay_cycles.ensures c.before.before.before.before.before.before c.perform.ensures)).does _) _)
 
 pub returns-in-6 : goal.returns-in-6
 returns-in-6 c = let a = c.args in
-    by_kind a.hz a.qpi a.t8 6 c.in-6.keys6 (does_runs c.wait_transfer_done.ensures _)
+    by_kind a.hz a.qpi a.t8 6 c.in-6.is (does_runs c.wait_transfer_done.ensures _)
 
 pub returns-in-7 : goal.returns-in-7
 returns-in-7 c = let a = c.args in
-    by_kind a.hz a.qpi a.t8 7 c.in-7.keys7 (does_runs c.set_mode.ensures _)
+    by_kind a.hz a.qpi a.t8 7 c.in-7.is (does_runs c.set_mode.ensures _)
 
 pub returns-in-8 : goal.returns-in-8
 returns-in-8 c = let a = c.args in
-    by_kind a.hz a.qpi a.t8 8 c.in-8.keys8 (rw (c.span-first.ensures, c.span-in-8.ensures) c.before.before.before.before.before.before.before.before.before c.read_quad.ensures)
+    by_kind a.hz a.qpi a.t8 8 c.in-8.is (rw (c.span-first.ensures, c.span-in-8.ensures) c.before.before.before.before.before.before.before.before.before c.read_quad.ensures)
 
 pub returns-in-9 : goal.returns-in-9
 returns-in-9 c = let a = at.before.before.before.before.before.args in

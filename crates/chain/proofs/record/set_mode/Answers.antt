@@ -4,7 +4,7 @@ use borrow.Author.Rules.{rules}
 use Rattle.chain.proofs.record.set_mode.Goals as goal
 
 pub returns-in-Mode : goal.returns-in-Mode
-returns-in-Mode c = rw (sym c.from_number-found.ensures ∙ c.found-1.given.1) c.set_work_mode.ensures
+returns-in-Mode c = rw (sym c.from_number-found.ensures ∙ c.in-Mode.is) c.set_work_mode.ensures
 
 pub returns-in-Unknown : goal.returns-in-Unknown
-returns-in-Unknown c = rw (sym c.from_number-found.ensures ∙ c.enum_told-1.given.1) (nothing_done (search rules))
+returns-in-Unknown c = rw (sym c.from_number-found.ensures ∙ c.in-Unknown.is) (nothing_done (search rules))

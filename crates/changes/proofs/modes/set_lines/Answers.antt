@@ -3,4 +3,4 @@ use borrow.Author.Rules.{rules}
 use Rattle.changes.proofs.modes.set_lines.Goals as goal
 
 pub returns : goal.returns
-returns c = c.beforehanges _ _ c.apply-word.ensures c.query-read.ensures c.perform.ensures
+returns c = changes _ _ c.apply-word.ensures c.query-read.ensures c.perform.ensures

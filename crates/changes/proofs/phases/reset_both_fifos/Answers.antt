@@ -5,4 +5,4 @@ use borrow.Author.Rules.{rules}
 use Rattle.changes.proofs.phases.reset_both_fifos.Goals as goal
 
 pub returns : goal.returns
-returns c = c.beforehanges _ _ (c.reset_rx_fifo-word.ensures ∙ ap (set_field 15 1 1) c.reset_tx_fifo.ensures) c.query-read.ensures c.perform.ensures
+returns c = changes _ _ (c.reset_rx_fifo-word.ensures ∙ ap (set_field 15 1 1) c.reset_tx_fifo.ensures) c.query-read.ensures c.perform.ensures

@@ -5,4 +5,4 @@ use borrow.Author.Rules.{rules}
 use Rattle.changes.proofs.phases.set_single_line.Goals as goal
 
 pub returns : goal.returns
-returns c = c.beforehanges _ _ (c.set_dummy_count-word.ensures ∙ ap (set_field 24 4 _) c.set_single_tx_count.ensures) c.query-read.ensures c.perform.ensures
+returns c = changes _ _ (c.set_dummy_count-word.ensures ∙ ap (set_field 24 4 _) c.set_single_tx_count.ensures) c.query-read.ensures c.perform.ensures

@@ -3,4 +3,4 @@ use borrow.Author.Rules.{rules}
 use Rattle.changes.proofs.phases.set_start.Goals as goal
 
 pub returns : goal.returns
-returns c = c.beforehanges _ _ c.set_start-word.ensures c.query-read.ensures c.perform.ensures
+returns c = changes _ _ c.set_start-word.ensures c.query-read.ensures c.perform.ensures

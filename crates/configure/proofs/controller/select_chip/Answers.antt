@@ -5,8 +5,8 @@ use Rattle.configure.proofs.controller.select_chip.Goals as goal
 
 pub returns-in-None : goal.returns-in-None
 unfolding chip_select
-returns-in-None c = rw c.enum_told-1.given.1 (nothing_works (search rules))
+returns-in-None c = rw c.in-None.is (nothing_works (search rules))
 
 pub returns-in-Some : goal.returns-in-Some
 unfolding chip_select
-returns-in-Some c = rw c.cs_config-1.given.1 c.modify.ensures
+returns-in-Some c = rw c.in-Some.is c.modify.ensures

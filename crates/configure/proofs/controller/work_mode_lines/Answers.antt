@@ -2,7 +2,7 @@ use borrow.Author.Rules.{rules}
 use Rattle.configure.proofs.controller.work_mode_lines.Goals as goal
 
 pub returns-in-Standard : goal.returns-in-Standard
-returns-in-Standard c = rw c.enum_told-1.given.1
+returns-in-Standard c = rw c.in-Standard.is
 
 pub returns-in-ThreeWire : goal.returns-in-ThreeWire
-returns-in-ThreeWire c = rw c.enum_told-in-ThreeWire-1.given.1
+returns-in-ThreeWire c = rw c.in-ThreeWire.is

@@ -14,10 +14,10 @@ some : (c.before : goal.Else-data-eq0) → 0 < c.args.limit
 some c.before = search rules
 
 pub read_bytes-read-requires : goal.read_bytes-read-requires
-read_bytes-read-requires c = (c.start_transfer-begun.ensures.sound, some c.before.before.before.before.before.before.before.before.before.before.before.before.before.before.before.before)
+read_bytes-read-requires c = record { sound = c.start_transfer-begun.ensures.sound; limit_nonzero = some c.before.before.before.before.before.before.before.before.before.before.before.before.before.before.before.before }
 
 pub wait_transfer_done-requires : goal.wait_transfer_done-requires
-wait_transfer_done-requires c = (c.read_bytes-read.ensures.sound, some c.before.before.before.before.before.before.before.before.before.before.before.before.before.before.before.before.before.before.before.before.before.before)
+wait_transfer_done-requires c = record { sound = c.read_bytes-read.ensures.sound; limit_nonzero = some c.before.before.before.before.before.before.before.before.before.before.before.before.before.before.before.before.before.before.before.before.before.before }
 
 pub shape_of-log : goal.shape_of-log
 shape_of-log c = c.wait_transfer_done.auto.1.1.0 ∙ c.read_bytes-read.auto.1.1.0

@@ -14,13 +14,13 @@ some : (c.before : goal.Else-data-eq0) → 0 < c.args.limit
 some c.before = search rules
 
 pub write_bytes-written-requires : goal.write_bytes-written-requires
-write_bytes-written-requires c = (c.start_transfer-begun.ensures.sound, some c.before.before.before.before.before.before.before.before.before.before.before.before.before.before.before)
+write_bytes-written-requires c = record { sound = c.start_transfer-begun.ensures.sound; limit_nonzero = some c.before.before.before.before.before.before.before.before.before.before.before.before.before.before.before }
 
 pub wait_tx_drained-drained-requires : goal.wait_tx_drained-drained-requires
-wait_tx_drained-drained-requires c = (c.write_bytes-written.ensures.sound, some c.before.before.before.before.before.before.before.before.before.before.before.before.before.before.before.before.before.before.before)
+wait_tx_drained-drained-requires c = record { sound = c.write_bytes-written.ensures.sound; limit_nonzero = some c.before.before.before.before.before.before.before.before.before.before.before.before.before.before.before.before.before.before.before }
 
 pub wait_transfer_done-requires : goal.wait_transfer_done-requires
-wait_transfer_done-requires c = (c.wait_tx_drained-drained.ensures.sound, some c.before.before.before.before.before.before.before.before.before.before.before.before.before.before.before.before.before.before.before.before.before.before.before)
+wait_transfer_done-requires c = record { sound = c.wait_tx_drained-drained.ensures.sound; limit_nonzero = some c.before.before.before.before.before.before.before.before.before.before.before.before.before.before.before.before.before.before.before.before.before.before.before }
 
 pub shape_of-log : goal.shape_of-log
 shape_of-log c = c.wait_transfer_done.auto.1.1.0 ∙ c.wait_tx_drained-drained.auto.1.1.0 ∙ c.write_bytes-written.auto.1.1.0

@@ -11,13 +11,13 @@ pub overflow_cast-given : goal.overflow_cast-given
 overflow_cast-given c = omega (arith, c.shared_slice_known-3-1.given (c.args.i + 1))
 
 pub returns-then-len-out : goal.returns-then-len-out
-returns-then-len-out c = (c.beforeounts c.args.out.now c.no_part-then-len-out.result.len (omega arith), search rules)
+returns-then-len-out c = record { prefix_len = counts c.args.out.now c.no_part-then-len-out.result.len (omega arith); next_in_bounds = search rules }
 
 pub returns-then-given-len : goal.returns-then-given-len
-returns-then-given-len c = (c.beforeounts c.args.out.now c.no_part-then-given-len.result.len (omega arith), search rules)
+returns-then-given-len c = record { prefix_len = counts c.args.out.now c.no_part-then-given-len.result.len (omega arith); next_in_bounds = search rules }
 
 pub returns-then-given-f : goal.returns-then-given-f
-returns-then-given-f c = (c.beforeounts c.args.out.now c.no_part-then-given-f.result.len (omega arith), search rules)
+returns-then-given-f c = record { prefix_len = counts c.args.out.now c.no_part-then-given-f.result.len (omega arith); next_in_bounds = search rules }
 
 -- GONE part_fill_start : tie.Need-slice-bounds-fill-start
 -- part_fill_start c = search rules
@@ -26,7 +26,8 @@ returns-then-given-f c = (c.beforeounts c.args.out.now c.no_part-then-given-f.re
 -- part_fill_end c = search rules
 
 pub returns-then-not-fill : goal.returns-then-not-fill
-returns-then-not-fill c = (c.beforeounts c.fill.new.out c.no_part-then-not-fill.result.len (omega arith), search rules)
+returns-then-not-fill c = record { prefix_len = counts c.fill.new.out c.no_part-then-not-fill.result.len (omega arith); next_in_bounds = search rules }
 
 pub returns : goal.returns
-returns c = (c.beforeounts c.fill.new.out _ (omega (arith, c.fill.auto, c.if-len-out.false)), search rules)
+returns c = record { prefix_len = counts c.fill.new.out _ (omega (arith, c.fill.auto, c.if-len-out.false)); next_in_bounds = search rules }
+

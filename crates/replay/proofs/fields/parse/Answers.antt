@@ -23,4 +23,4 @@ loop-at-preserved c = let l = c.loop-at in
     (search rules, simp length-set (omega arith), simp length-set l.invariant.2)
 
 pub returns : goal.returns
-returns c = c.beforeounts _ _ c.loop-at.invariant.1
+returns c = counts _ _ c.loop-at.invariant.1

@@ -6,11 +6,11 @@ use Rattle.replay.proofs.text.put.Goals as goal
 
 pub returns-then-at-out : goal.returns-then-at-out
 returns-then-at-out c = let out = c.args.out.now in
-    c.beforeounts out (length out) (omega arith)
+    counts out (length out) (omega arith)
 
 pub returns-then-src-out : goal.returns-then-src-out
 returns-then-src-out c = let out = c.args.out.now in
-    c.beforeounts out (length out) (omega arith)
+    counts out (length out) (omega arith)
 
 -- GONE sub-copy : tie.Need-overflow-sub-copy
 -- sub-copy c = search rules

@@ -2,4 +2,4 @@ use borrow.Author.Rules.{rules}
 use Rattle.access.proofs.entry.Act.head.Goals as goal
 
 pub returns-in-Write : goal.returns-in-Write
-returns-in-Write c = rw c.self-1.given.1
+returns-in-Write c = rw c.in-Write.is

@@ -2,4 +2,4 @@ use borrow.Author.Rules.{rules}
 use Rattle.access.proofs.entry.Ask.head.Goals as goal
 
 pub returns-in-Register : goal.returns-in-Register
-returns-in-Register c = rw c.self-1.given.1
+returns-in-Register c = rw c.in-Register.is

@@ -2,4 +2,4 @@ use borrow.Author.Rules.{rules}
 use Rattle.access.proofs.entry.Ask.said.Goals as goal
 
 pub returns-in-Byte : goal.returns-in-Byte
-returns-in-Byte c = rw c.enum_told-in-Byte-1.given.1
+returns-in-Byte c = rw c.in-Byte.is

@@ -4,13 +4,13 @@ use borrow.Author.Rules.{rules}
 use Rattle.changes.proofs.modes.Lines.apply.Goals as goal
 
 pub returns-in-One : goal.returns-in-One
-returns-in-One c = rw c.enum_told-1.given.1 (c.disable_dual.ensures ∙ ap (set_field 28 1 0) c.disable_quad.ensures)
+returns-in-One c = rw c.in-One.is (c.disable_dual.ensures ∙ ap (set_field 28 1 0) c.disable_quad.ensures)
 
 pub returns-in-Two : goal.returns-in-Two
-returns-in-Two c = rw c.enum_told-in-Two-1.given.1 (c.enable_dual.ensures ∙ ap (set_field 28 1 1) c.disable_quad-in-Two.ensures)
+returns-in-Two c = rw c.in-Two.is (c.enable_dual.ensures ∙ ap (set_field 28 1 1) c.disable_quad-in-Two.ensures)
 
 pub returns-in-Four : goal.returns-in-Four
-returns-in-Four c = rw c.enum_told-in-Four-1.given.1 (c.disable_dual-in-Four.ensures ∙ ap (set_field 28 1 0) c.enable_quad.ensures)
+returns-in-Four c = rw c.in-Four.is (c.disable_dual-in-Four.ensures ∙ ap (set_field 28 1 0) c.enable_quad.ensures)
 
 pub returns-in-Qpi : goal.returns-in-Qpi
-returns-in-Qpi c = rw c.enum_told-in-Qpi-1.given.1 (c.enable_qpi.ensures ∙ ap (set_field 31 1 1) c.enable_quad-in-Qpi.ensures)
+returns-in-Qpi c = rw c.in-Qpi.is (c.enable_qpi.ensures ∙ ap (set_field 31 1 1) c.enable_quad-in-Qpi.ensures)

@@ -2,13 +2,13 @@ use borrow.Author.Rules.{rules}
 use Rattle.setups.proofs.clock_word.ClockWord.apply.Goals as goal
 
 pub returns-in-On : goal.returns-in-On
-returns-in-On c = rw (c.self-1.given.1, c.enable_bus_clk.ensures, c.enable_module_clk.ensures, c.set_module_clk_div.ensures)
+returns-in-On c = rw (c.in-On.is, c.enable_bus_clk.ensures, c.enable_module_clk.ensures, c.set_module_clk_div.ensures)
 
 pub returns-in-ResetOn : goal.returns-in-ResetOn
-returns-in-ResetOn c = rw (c.enum_told-1.given.1, c.enable_module_reset.ensures)
+returns-in-ResetOn c = rw (c.in-ResetOn.is, c.enable_module_reset.ensures)
 
 pub returns-in-ResetOff : goal.returns-in-ResetOff
-returns-in-ResetOff c = rw (c.enum_told-in-ResetOff-1.given.1, c.disable_module_reset.ensures)
+returns-in-ResetOff c = rw (c.in-ResetOff.is, c.disable_module_reset.ensures)
 
 pub returns-in-Off : goal.returns-in-Off
-returns-in-Off c = rw (c.enum_told-in-Off-1.given.1, c.enable_module_reset-in-Off.ensures, c.disable_bus_clk.ensures, c.disable_module_clk.ensures)
+returns-in-Off c = rw (c.in-Off.is, c.enable_module_reset-in-Off.ensures, c.disable_bus_clk.ensures, c.disable_module_clk.ensures)
