@@ -60,9 +60,9 @@ two_ways QuadIO bits = refl
 two_ways Qpi bits = refl
 
 module _ (mode : WorkMode) (bits : Bool) {b : Bool} (e : b ≡ in_bytes mode bits) where
-  pub in_bytes : b ≡ true → configure_work_mode mode bits ≡ then (first mode bits) (change 0x008 (set_field 25 1 1))
+  pub in_bytes_lem : b ≡ true → configure_work_mode mode bits ≡ then (first mode bits) (change 0x008 (set_field 25 1 1))
   unfolding steps
-  in_bytes t = two_ways mode bits ∙ ap (steps mode bits) (sym e ∙ t)
+  in_bytes_lem t = two_ways mode bits ∙ ap (steps mode bits) (sym e ∙ t)
 
   pub not_in_bytes : b ≡ false → configure_work_mode mode bits ≡ first mode bits
   unfolding steps

@@ -32,14 +32,16 @@ zeros command k d h =
 
 -- `d` zeros behind `n` bytes of the command, which were copied into sixteen zeros
 pub frames : (command : List ℕ) (dummies : ℕ) {bytes : List ℕ} {n d : ℕ} → d ≡ min dummies 8 → n ≡ min (length command) (16 - d)
-    → bytes ≡ take (length (take n command)) (take n command) ++ drop (length (take n command)) (replicate 16 0)
+    → bytes ≡ take n command ++ drop n (replicate 16 0)
     → Frames command dummies (record { bytes = bytes; length = n + d })
 unfolding framed
 frames command dummies {bytes} {n} {d} e f g =
+    let counts : length (take n command) ≡ n = simp length-take (omega arith) in
+    let left : 16 - n ≡ 16 - length (take n command) = omega (arith, counts) in
     let t : take n command ≡ take (16 - min dummies 8) command = rw (f, e) (take_min (16 - min dummies 8) command) in
     record {
       filled =
-          g ∙ rw (take-length (take n command), drop_replicate (length (take n command)) 16, t)
+          g ∙ rw (drop_replicate n 16, left, t)
           (zeros command (16 - min dummies 8) (min dummies 8) (omega arith));
       counted = simp (length-append, length-take, length-replicate) (omega arith);
     }

@@ -22,11 +22,6 @@ use Rattle.access.proofs.Through.{Through, through_more}
 use Rattle.qspi.proofs.Windows.{tx_inside, rx_inside}
 use Rattle.transfer.specs.Transfer.{transfer_steps, part_steps, parts, in_place_steps}
 
--- what was copied is the part
-pub sent_part : {part temp' : List ℕ} {len : ℕ} (temp : List ℕ) → len ≡ length part → temp' ≡ take (length part) part ++ drop (length part) temp
-    → take len temp' ≡ part
-sent_part {part} temp e c = rw (c, e, take-length part) (take-append_seam part (drop (length part) temp))
-
 -- The bytes sent are those of the part.
 pub part_runs : {limit : ℕ} {answers : List ℕ} {p r : Progress} {log log' part part' bytes : List ℕ} → bytes ≡ part
     → Runs (transfer_steps bytes 0 (length part)) limit answers p log part r log' part'

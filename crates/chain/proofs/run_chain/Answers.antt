@@ -14,14 +14,6 @@ pub loop-r-init : goal.loop-r-init
 loop-r-init c = let a = c.args in
     (search rules, running_starts a.hz a.qpi a.highest a.words.now (search rules) (omega arith) (search rules))
 
-pub record_at-r-requires : goal.record_at-r-requires
-record_at-r-requires c = record { le_own = c.loop-r.invariant.1.one; own_in_bounds = omega (arith, c.loop-r.invariant.1.most) }
-
-pub run_record-current-requires : goal.run_record-current-requires
-run_record-current-requires c = let a = c.args in
-    let on = c.loop-r.invariant.1 in
-    (on.sound, (search rules, runs_on a.hz a.qpi a.highest a.words.now on c.record_at-r.ensures))
-
 pub returns-then-number-ne0 : goal.returns-then-number-ne0
 returns-then-number-ne0 c = let a = c.args in
     let on = c.loop-r.invariant.1 in

@@ -6,9 +6,5 @@ use Rattle.chain.proofs.transact.Goals as goal
 pub returns-then-refused-ne0 : goal.returns-then-refused-ne0
 returns-then-refused-ne0 c = refused_transacts _ _ _ _ c.refused-refused.ensures c.if-refused-ne0.true c.new.ensures c.ended.ensures
 
-pub run_chain-requires : goal.run_chain-requires
-run_chain-requires c = let ok = accepted _ _ _ c.refused-refused.ensures c.if-refused-ne0.false in
-    (begun_sound c.new-2.ensures, (ok.0, ok.1))
-
 pub returns : goal.returns
 returns c = runs_transacts _ _ _ _ c.refused-refused.ensures c.if-refused-ne0.false c.new-2.ensures c.run_chain.ensures

@@ -3,8 +3,5 @@ use Rattle.opening.proofs.Call.{released}
 use borrow.Author.Rules.{rules}
 use Rattle.opening.proofs.free.Goals as goal
 
-pub release-requires : goal.release-requires
-release-requires c = begun_sound c.new.ensures
-
 pub returns : goal.returns
 returns c = released c.new.ensures c.release.ensures

@@ -4,11 +4,11 @@ use borrow.Author.Rules.{rules}
 use Rattle.opening.proofs.open.Goals as goal
 
 pub returns-then-refused-ne0 : goal.returns-then-refused-ne0
-returns-then-refused-ne0 c = c_opens _ _ _ _ c.refused-refused.ensures c.if-refused-ne0.true c.new-begun.ensures c.ended.ensures c.with_rate.ensures
-
-pub new-progress-requires : goal.new-progress-requires
-new-progress-requires c = record { sound = c_sound c.new-begun.ensures; instance_bound = accepted _ _ _ _ _ c.refused-refused.ensures c.if-refused-ne0.false }
+returns-then-refused-ne0 c = refused_opens _ _ _ _ c.refused-refused.ensures c.if-refused-ne0.true c.new-begun.ensures c.ended.ensures c.with_rate.ensures
 
 pub returns : goal.returns
-returns c = cs_opens _ _ _ _ c.refused-refused.ensures c.if-refused-ne0.false c.new-begun.ensures c.clamp_target.ensures c.select_clock-choice.ensures
+returns c = runs_opens _ _ _ _ c.refused-refused.ensures c.if-refused-ne0.false c.new-begun.ensures c.clamp_target.ensures c.select_clock-choice.ensures
     c.rate-sck_hz.ensures c.new-progress.ensures c.with_rate-2.ensures
+
+pub new-progress-requires-clause-instance_bound : goal.new-progress-requires-clause-instance_bound
+new-progress-requires-clause-instance_bound c = accepted _ _ _ _ _ c.refused-refused.ensures c.if-refused-ne0.false

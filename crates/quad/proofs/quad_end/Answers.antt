@@ -7,9 +7,6 @@ pub returns-then-number-eq0 : goal.returns-then-number-eq0
 unfolding standard_mode
 returns-then-number-eq0 c = closes_done c.if-number-eq0.true c.set_work_mode.ensures
 
-pub set_work_mode-standard-requires : goal.set_work_mode-standard-requires
-set_work_mode-standard-requires c = rw c.ended.ensures (search rules)
-
 pub returns : goal.returns
 unfolding standard_mode
 returns c = rw (c.ended-2.ensures, c.failure.ensures) (closes (rw c.ended.ensures at c.set_work_mode-standard.ensures))

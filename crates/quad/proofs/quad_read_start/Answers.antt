@@ -5,6 +5,3 @@ use Rattle.quad.proofs.quad_read_start.Goals as goal
 
 pub slice_bounds-quad_start-end : goal.slice_bounds-quad_start-end
 slice_bounds-quad_start-end c = simp length-take (omega arith)
-
-pub quad_start-requires : goal.quad_start-requires
-quad_start-requires c = (search rules, (search rules, simp length-take (omega arith)))

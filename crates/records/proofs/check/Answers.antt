@@ -19,51 +19,41 @@ returns-then-count-eq0 c = ap verdict (sym (whole_empty _ _ _ c.if-words-ne0.fal
 pub loop-r-init : goal.loop-r-init
 loop-r-init c = (search rules, omega arith, ap verdict (sym (whole_from _ _ _ c.if-words-ne0.false)))
 
-pub record_at-r-requires : goal.record_at-r-requires
-record_at-r-requires c = omega arith
-
--- the number that the code found is the record's fault, and its next the record's
-number_is : (c.before : goal.After-record_fault-number)
+-- where the chain goes on
+onward_is : (c : goal.Else-next-eq0)
     → let a = c.args in
-    c.record_fault-number.result ≡ fault_at a.highest a.memory a.words.now c.loop-r.own_val
-number_is c.before = c.record_fault-number.ensures ∙ ap (record_fault _ _ _ _) c.record_at-r.ensures
-
-next_is : (c.before : goal.After-record_at-r)
-    → let a = c.args in
-    next_at a.highest a.memory a.words.now c.loop-r.own_val ≡ next_of c.record_at-r.result
-next_is c.before = ap next_of (sym c.record_at-r.ensures)
-
-onward_is : (c.before : goal.Else-next-eq0)
-    → let a = c.args in
-    let own = c.loop-r.own_val in
+    let own = c.loop-r.own in
     let next = next_of c.record_at-r.result in
     (own < next)
     × (next ≤ length a.words.now / 8)
     × (verdict (from a.highest a.memory a.words.now next) ≡ verdict (from a.highest a.memory a.words.now own))
-onward_is c.before =
+onward_is c =
     let a = c.args in
     let l = c.loop-r in
-    let e = next_is c.before.before.before.before in
-    let on = from_on a.highest a.memory a.words.now l.own_val l.invariant.0 l.invariant.1 (sym (number_is c.before.before.before) ∙ c.if-number-ne0.false) (λ z. c.if-next-eq0.false (sym e ∙ z)) in
-    rw (← e) (on.0, on.1, sym (ap verdict on.2 ∙ passed (record_at a.words.now l.own_val) (from a.highest a.memory a.words.now (next_at a.highest a.memory a.words.now l.own_val))))
+    let e : next_at a.highest a.memory a.words.now l.own ≡ next_of c.record_at-r.result = ap next_of (sym c.record_at-r.ensures) in
+    let number : c.record_fault-number.result ≡ fault_at a.highest a.memory a.words.now l.own = c.record_fault-number.ensures ∙ ap (record_fault _ _ _ _) c.record_at-r.ensures in
+    let on = from_on a.highest a.memory a.words.now l.own l.invariant.0 l.invariant.1 (sym number ∙ c.if-number-ne0.false) (λ z. c.if-next-eq0.false (sym e ∙ z)) in
+    rw (← e) (on.0, on.1, sym (ap verdict on.2 ∙ passed (record_at a.words.now l.own) (from a.highest a.memory a.words.now (next_at a.highest a.memory a.words.now l.own))))
 
 pub returns-then-number-ne0 : goal.returns-then-number-ne0
 returns-then-number-ne0 c = let a = c.args in
     let l = c.loop-r in
-    let e = number_is c.before.before in
-    ap (λ (n : ℕ). Verdict.Fault n l.own_val) e
-    ∙ sym (ap verdict (from_fault a.highest a.memory a.words.now l.own_val l.invariant.0 l.invariant.1 (λ z. c.if-number-ne0.true (e ∙ z)))) ∙ l.invariant.2
+    let e : c.record_fault-number.result ≡ fault_at a.highest a.memory a.words.now l.own = c.record_fault-number.ensures ∙ ap (record_fault _ _ _ _) c.record_at-r.ensures in
+    ap (λ (n : ℕ). Verdict.Fault n l.own) e
+    ∙ sym (ap verdict (from_fault a.highest a.memory a.words.now l.own l.invariant.0 l.invariant.1 (λ z. c.if-number-ne0.true (e ∙ z)))) ∙ l.invariant.2
 
 pub returns-then-next-eq0 : goal.returns-then-next-eq0
 returns-then-next-eq0 c = let a = c.args in
     let l = c.loop-r in
-    sym (ap verdict (from_last a.highest a.memory a.words.now l.own_val l.invariant.0 l.invariant.1 (sym (number_is c.before.before.before) ∙ c.if-number-ne0.false)
-    (next_is c.before.before.before.before ∙ c.if-next-eq0.true)))
+    let number : c.record_fault-number.result ≡ fault_at a.highest a.memory a.words.now l.own = c.record_fault-number.ensures ∙ ap (record_fault _ _ _ _) c.record_at-r.ensures in
+    let next : next_at a.highest a.memory a.words.now l.own ≡ next_of c.record_at-r.result = ap next_of (sym c.record_at-r.ensures) in
+    sym (ap verdict (from_last a.highest a.memory a.words.now l.own l.invariant.0 l.invariant.1 (sym number ∙ c.if-number-ne0.false)
+    (next ∙ c.if-next-eq0.true)))
     ∙ l.invariant.2
 
 pub loop-r-smaller : goal.loop-r-smaller
-loop-r-smaller c = omega (arith, onward_is c.before)
+loop-r-smaller c = omega (arith, onward_is c)
 
 pub loop-r-preserved : goal.loop-r-preserved
-loop-r-preserved c = let o = onward_is c.before in
+loop-r-preserved c = let o = onward_is c in
     (omega (arith, o), o.1, o.2 ∙ c.loop-r.invariant.2)

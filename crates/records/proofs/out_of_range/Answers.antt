@@ -14,4 +14,4 @@ returns-in-8 c = simp (c.in-8.is, or-false)
 
 pub returns-in_default : goal.returns-in_default
 unfolding out_of_range
-returns-in_default c = simp (no_caps _ c.in_default.rest.0.1 c.in_default.rest.1)
+returns-in_default c = simp (no_caps _ c.in_default.in_default-own.rest.0.1 c.in_default.in_default-own.rest.1)

@@ -29,5 +29,5 @@ returns-in-9 c = simp c.in-9.is c.two_windows_fault-in-9.ensures
 
 pub returns-in_default : goal.returns-in_default
 unfolding windows_fault extents_fault
-returns-in_default c = let r = c.in_default.rest in
+returns-in_default c = let r = c.in_default.in_default-own.rest in
     simp (no_windows _ r.0.0.0.0.0.1 r.0.0.0.0.1 r.0.0.0.1 r.0.0.1 r.0.1 r.1)

@@ -12,20 +12,11 @@ use Rattle.transfer.proofs.transfer_in_place.Goals as goal
 pub loop-idx-init : goal.loop-idx-init
 loop-idx-init c = (search rules, through_starts in_place_steps _ _ _ _ _ (rw c.ended-current.ensures (search rules)))
 
--- GONE part_transfer_part_start : tie.Need-slice-bounds-transfer-part-start invariant-loop decreases-loop
--- part_transfer_part_start c = search rules
-
--- GONE part_transfer_part_end : tie.Need-slice-bounds-transfer-part-end invariant-loop decreases-loop
--- part_transfer_part_end c = search rules
-
 pub returns-then-number-ne0 : goal.returns-then-number-ne0
 returns-then-number-ne0 c = let on = c.loop-idx.invariant.1 in
     let more = exchanging_more on c.least-len.result (omega (arith, c.loop-idx-test.true, on.same)) (omega (arith, c.least-len.ensures, on.same))
-    (rw add-sub_cancel_left at c.transfer_part-current.auto.1.1.1.1.0) (rw add-sub_cancel_left at c.transfer_part-current.ensures) in
+    (rw add-sub_cancel_left at c.transfer_part-current.auto.chunk) (rw add-sub_cancel_left at c.transfer_part-current.ensures) in
     rw add-sub_cancel_left (rw c.ended-current.ensures at (through_stops more c.if-number-ne0.true))
-
-pub overflow_add-idx-in-loop-idx : goal.overflow_add-idx-in-loop-idx
-overflow_add-idx-in-loop-idx c = add-transfer-part c.before.before.before.before.before.before.before.before
 
 pub loop-idx-smaller : goal.loop-idx-smaller
 loop-idx-smaller c = omega (arith, c.least-len.ensures, c.loop-idx-test.true, c.loop-idx.invariant.1.same)
@@ -36,7 +27,7 @@ loop-idx-preserved c = (
   let on = c.loop-idx.invariant.1 in
       rw add-sub_cancel_left
       (exchanging_more on c.least-len.result (omega (arith, c.loop-idx-test.true, on.same)) (omega (arith, c.least-len.ensures, on.same))
-      (rw add-sub_cancel_left at c.transfer_part-current.auto.1.1.1.1.0) (rw add-sub_cancel_left at c.transfer_part-current.ensures)),
+      (rw add-sub_cancel_left at c.transfer_part-current.auto.chunk) (rw add-sub_cancel_left at c.transfer_part-current.ensures)),
 )
 
 pub returns : goal.returns

@@ -14,23 +14,8 @@ loop-cause-init c = (search rules, polling_starts _ _ _ _ _ (search rules) (sear
 pub returns-then-after-ne0 : goal.returns-then-after-ne0
 returns-then-after-ne0 c = polling_stops c.loop-cause.invariant.1 c.polled.ensures c.query-read.ensures c.if-after-ne0.true
 
--- the next unready poll's number fits, as the limit does
-one_more : (c.before : goal.Else-after-ne0) → c.loop-cause.unready + 1 < 2 ^ 32
-one_more c.before = omega (arith, c.loop-cause.invariant.1.below)
-
--- the log keeps its length
-log_kept : (c.before : goal.Else-after-ne0)
-    → length c.query-read.new.log ≡ length c.args.log.now
-log_kept c.before = search rules
-
 pub counted-requires : goal.counted-requires
 counted-requires c = record { polls_bound = omega (arith, c.query-read.ensures.rises c.if-after-ne0.false); before_bound = omega (arith, c.loop-cause.invariant.1.below) }
-
-pub overflow_add-unready : goal.overflow_add-unready
-overflow_add-unready c = record { fits = one_more c.before.before.before.before.before.before }
-
-pub shape_of-log-then-unready-limit : goal.shape_of-log-then-unready-limit
-shape_of-log-then-unready-limit c = log_kept c.before.before.before.before.before.before.before.before
 
 pub returns-then-unready-limit : goal.returns-then-unready-limit
 returns-then-unready-limit c = rw c.ended.ensures

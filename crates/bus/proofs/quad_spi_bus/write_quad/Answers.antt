@@ -12,7 +12,7 @@ returns-then-refused-ne0 c = refused_called (write_quad _ _) _ _ c.refused-refus
 
 pub write_quad-requires : goal.write_quad-requires
 write_quad-requires c = let ok = accepted c.refused-refused.ensures c.if-refused-ne0.false in
-    (begun_sound (unrefused c.if-refused-ne0.false c.new.ensures c.ended-begun.ensures), (ok.0, (ok.1, ok.2)))
+    record { sound = begun_sound (unrefused c.if-refused-ne0.false c.new.ensures c.ended-begun.ensures); limit_nonzero = ok.0; command_len_bound = (ok.1, ok.2) }
 
 pub returns : goal.returns
 unfolding refusal too_long lengths_of steps_of

@@ -10,7 +10,7 @@ unfolding refusal too_long lengths_of steps_of
 returns-then-refused-ne0 c = refused_called flush _ _ c.refused-refused.ensures refl c.if-refused-ne0.true c.new.ensures c.ended-begun.ensures
 
 pub wait_transfer_done-requires : goal.wait_transfer_done-requires
-wait_transfer_done-requires c = begins c.refused-refused.ensures c.if-refused-ne0.false c.new.ensures c.ended-begun.ensures
+wait_transfer_done-requires c = let ok = begins c.refused-refused.ensures c.if-refused-ne0.false c.new.ensures c.ended-begun.ensures in record { sound = ok.0; limit_nonzero = ok.1 }
 
 pub returns : goal.returns
 unfolding refusal too_long lengths_of steps_of

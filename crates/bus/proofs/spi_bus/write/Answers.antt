@@ -12,7 +12,7 @@ returns-then-refused-ne0 c = refused_called (write _) _ _ c.refused-refused.ensu
 
 pub tx_phase-requires : goal.tx_phase-requires
 tx_phase-requires c = let ok = accepted c.refused-refused.ensures c.if-refused-ne0.false in
-    (begun_sound (unrefused c.if-refused-ne0.false c.new.ensures c.ended-begun.ensures), (ok.0, ok.1))
+    record { sound = begun_sound (unrefused c.if-refused-ne0.false c.new.ensures c.ended-begun.ensures); limit_nonzero = ok.0; data_len_bound = ok.1 }
 
 pub returns : goal.returns
 unfolding refusal too_long lengths_of steps_of

@@ -6,35 +6,6 @@ use Rattle.chain.proofs.ByKind.{margin_fits, by_kind, none_runs}
 use borrow.Author.Rules.{rules}
 use Rattle.chain.proofs.record.run_record.Goals as goal
 
-pub write-requires : goal.write-requires
-write-requires c = let start = first.before.before.before.before in
-    let w = windows_in _ _ 1 at.match.keys1 start.requires.1.1.0 in
-    (search rules, (search rules, rw first.span.ensures (w.0.0, w.0.1 refl)))
-
-pub read-requires : goal.read-requires
-read-requires c = let w = windows_in _ _ 2 c.in-2.is c.requires.limit_nonzero.1.0 in
-    (search rules, (search rules, rw c.span-first.ensures (w.0.0, w.0.1 refl)))
-
-pub transfer-requires : goal.transfer-requires
-transfer-requires c = let w = windows_in _ _ 3 c.in-3.is c.requires.limit_nonzero.1.0 in
-    (search rules, (search rules, (rw c.span-first.ensures (w.0.0, w.0.1 refl), rw c.span.ensures (w.1.0.0, w.1.0.1 refl))))
-
-pub transfer_in_place-requires : goal.transfer_in_place-requires
-transfer_in_place-requires c = let w = windows_in _ _ 4 c.in-4.is c.requires.limit_nonzero.1.0 in
-    (search rules, (search rules, rw c.span-first.ensures w.0.0))
-
-pub overflow_cast-r : goal.overflow_cast-r
-overflow_cast-r c = omega (arith, margin_fits _ c.in-8.is c.requires.limit_nonzero.1.1)
-
-pub read_quad-requires : goal.read_quad-requires
-read_quad-requires c = let w = windows_in _ _ 8 c.in-8.is c.requires.limit_nonzero.1.0 in
-    (search rules, (search rules, (rw c.span-first.ensures w.0.0, rw c.span-in-8.ensures (w.1.0.0, w.1.0.1 refl))))
-
-pub write_quad-requires : goal.write_quad-requires
-write_quad-requires c = let start = first.before.before.before.before in
-    let w = windows_in _ _ 9 at.match.keys9 start.requires.1.1.0 in
-    (search rules, (search rules, (rw first.span.ensures (w.0.0, w.0.1 refl), rw c.span-in-9.ensures (w.1.0.0, w.1.0.1 refl))))
-
 pub returns-in-1 : goal.returns-in-1
 returns-in-1 c = let a = at.before.before.before.before.before.args in
     by_kind a.hz a.qpi a.t8 1 at.match.keys1 (rw at.before.span.ensures c.before.before.before.before.before.before c.write.ensures)

@@ -8,4 +8,4 @@ pub returns : goal.returns
 unfolding controller_clock
 returns c = then_works c.modify-held.ensures
     (then_works (acts_works c.perform-delayed.ensures)
-    (then_works (rw (c.clock_divider.ensures, cs) at c.modify-divided.ensures) (acts_works c.perform.ensures)))
+    (then_works (rw (c.clock_divider.ensures, divides) at c.modify-divided.ensures) (acts_works c.perform.ensures)))

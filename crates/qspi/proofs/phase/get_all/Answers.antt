@@ -12,9 +12,6 @@ loop-i-init c = (search rules, getting_starts _ _ _ _ (search rules))
 pub returns-then-number-ne0 : goal.returns-then-number-ne0
 returns-then-number-ne0 c = getting_stops c.loop-i.invariant.1 (search rules) c.query-read.ensures c.if-number-ne0.true
 
-pub overflow_cast-buf : goal.overflow_cast-buf
-overflow_cast-buf c = omega (arith, c.query-read.ensures.says c.if-number-ne0.false)
-
 pub loop-i-preserved : goal.loop-i-preserved
 loop-i-preserved c = (
   search rules,

@@ -14,15 +14,6 @@ loop-idx-init c = (search rules, through_starts reading _ _ _ _ _ (search rules)
 pub returns-then-number-ne0 : goal.returns-then-number-ne0
 returns-then-number-ne0 c = reading_stops c.loop-idx.invariant.1 (search rules) c.wait-waited.ensures c.if-number-ne0.true
 
--- GONE part_get_all_start : tie.Need-slice-bounds-get-all-start invariant-loop decreases-loop
--- part_get_all_start c = search rules
-
--- GONE part_get_all_end : tie.Need-slice-bounds-get-all-end invariant-loop decreases-loop
--- part_get_all_end c = search rules
-
-pub overflow_add-idx-in-loop-idx : goal.overflow_add-idx-in-loop-idx
-overflow_add-idx-in-loop-idx c = add-get-all c.before.before.before.before.before.before.before
-
 pub loop-idx-smaller : goal.loop-idx-smaller
 loop-idx-smaller c = omega (
       arith,
@@ -38,7 +29,7 @@ loop-idx-preserved c = (
   let on = c.loop-idx.invariant.1 in
       rw add-sub_cancel_left
       (reading_more on (omega (arith, c.loop-idx-test.true, on.same)) c.wait-waited.ensures c.if-number-ne0.false
-      (omega (arith, c.least-len.ensures, on.same)) (rw add-sub_cancel_left at c.get_all-current.auto.1.1.1.0)
+      (omega (arith, c.least-len.ensures, on.same)) (rw add-sub_cancel_left at c.get_all-current.auto.buf)
       (rw add-sub_cancel_left at c.get_all-current.ensures)),
 )
 

@@ -9,20 +9,6 @@ use Rattle.qspi.proofs.phase.rx_phase.Goals as goal
 pub returns-then-data-eq0 : goal.returns-then-data-eq0
 returns-then-data-eq0 c = rx_none _ c.if-data-eq0.true (search rules)
 
--- the limit is at least 1
-some : (c.before : goal.Else-data-eq0) → 0 < c.args.limit
-some c.before = search rules
-
-pub read_bytes-read-requires : goal.read_bytes-read-requires
-read_bytes-read-requires c = record { sound = c.start_transfer-begun.ensures.sound; limit_nonzero = some c.before.before.before.before.before.before.before.before.before.before.before.before.before.before.before.before }
-
-pub wait_transfer_done-requires : goal.wait_transfer_done-requires
-wait_transfer_done-requires c = record { sound = c.read_bytes-read.ensures.sound; limit_nonzero = some c.before.before.before.before.before.before.before.before.before.before.before.before.before.before.before.before.before.before.before.before.before.before }
-
-pub shape_of-log : goal.shape_of-log
-shape_of-log c = c.wait_transfer_done.auto.1.1.0 ∙ c.read_bytes-read.auto.1.1.0
-    ∙ c.start_transfer-begun.auto.1.0 ∙ c.program_transfer-programmed.auto.1.0 ∙ c.reset_fifos-reset.auto.1.0
-
 pub returns : goal.returns
 unfolding begin_transfer
 returns c = rx_some _ c.if-data-eq0.false

@@ -13,15 +13,6 @@ loop-idx-init c = (search rules, writing_starts _ _ _ _ _ (search rules))
 pub returns-then-number-ne0 : goal.returns-then-number-ne0
 returns-then-number-ne0 c = writing_stops c.loop-idx.invariant.1 c.loop-idx-test.true c.wait-waited.ensures c.if-number-ne0.true
 
--- GONE part_send_all_start : tie.Need-slice-bounds-send-all-start invariant-loop decreases-loop
--- part_send_all_start c = search rules
-
--- GONE part_send_all_end : tie.Need-slice-bounds-send-all-end invariant-loop decreases-loop
--- part_send_all_end c = search rules
-
-pub overflow_add-idx-in-loop-idx : goal.overflow_add-idx-in-loop-idx
-overflow_add-idx-in-loop-idx c = add-send-all c.before.before.before.before.before
-
 pub loop-idx-smaller : goal.loop-idx-smaller
 loop-idx-smaller c = omega (arith, c.least-len.ensures, c.loop-idx-test.true, some_count (λ _. refl) c.wait-waited.ensures c.if-number-ne0.false)
 
