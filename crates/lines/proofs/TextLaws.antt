@@ -5,7 +5,7 @@ use mathlib.Core.Bool.{Bool, true, false, cond}
 use mathlib.Core.List.{List, [], ◌∷◌, ◌++◌, append_assoc, append-nil}
 use native.Mathlib.Omega.{arith}
 use native.Mathlib.Decide.{dec_lt, dec_le}
-use native.Mathlib.Nat.{add_assoc, pow-le-pow_right}
+use native.Mathlib.Nat.{add_assoc, add-sub_cancel_left, pow-le-pow_right}
 use lib.ListN.{length, get_or, take, drop, length-append, length-drop, drop_of_length-le}
 use lib.Seq.{take_at, drop_at, drop-drop, length-take-le, take-length, take_all}
 use lib.Dec.{leb}
@@ -57,16 +57,15 @@ wrote_as e w = rw (← e) w
 pub wrote_start : (d : List ℕ) → Wrote d 0 d 0 []
 wrote_start d = record { text = refl; place = refl; room = omega arith }
 
--- a copy into the part of a list from `at` on is a write at `at`
+-- a part of a list that becomes another of its length is a write
 pub wrote_part :
     (d s ys : List ℕ) (at : ℕ)
     → at + length s ≤ length d
-    → ys ≡ take (length s) s ++ drop (length s) (take (length d - at) (drop at d))
-    → Wrote d at (take at d ++ (ys ++ drop (length d - at) (drop at d))) (at + length s) s
+    → ys ≡ s
+    → Wrote d at (take at d ++ (ys ++ drop (at + length s - at) (drop at d))) (at + length s) s
 wrote_part d s ys at h e =
-    let l : length (drop at d) ≤ length d - at = omega (arith, length-drop at d) in
     record {
-      text = rw (e, take-length s, take_all (length d - at) (drop at d) l, drop_of_length-le (drop at d) l, append-nil, drop-drop (length s) at d);
+      text = rw (e, add-sub_cancel_left, drop-drop (length s) at d) refl;
       place = refl;
       room = h;
     }

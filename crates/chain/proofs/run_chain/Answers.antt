@@ -32,4 +32,10 @@ loop-r-smaller c = let a = c.args in
 pub loop-r-preserved : goal.loop-r-preserved
 loop-r-preserved c = let a = c.args in
     let on = c.loop-r.invariant.1 in
-    (search rules, running_on a.hz a.qpi a.highest a.words.now on c.record_at-r.ensures c.run_record-current.ensures c.if-next-eq0.false c.run_record-current.auto.1.1.1.1.1.1.0)
+    (search rules, running_on a.hz a.qpi a.highest a.words.now on c.record_at-r.ensures c.run_record-current.ensures c.if-next-eq0.false c.run_record-current.auto.memory)
+
+pub run_record-current-requires-clause-r_value : goal.run_record-current-requires-clause-r_value
+run_record-current-requires-clause-r_value c =
+    let a = c.args in
+    let on = c.loop-r.invariant.1 in
+    runs_on a.hz a.qpi a.highest a.words.now on c.record_at-r.ensures

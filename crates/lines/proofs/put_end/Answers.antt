@@ -4,12 +4,6 @@ use Rattle.lines.specs.Text.{end_line}
 use borrow.Author.Rules.{rules}
 use Rattle.lines.proofs.put_end.Goals as goal
 
--- GONE slice_aggregate_put : tie.Need-slice-aggregate-put
--- slice_aggregate_put c = search rules
-
--- GONE slice_aggregate_put_2 : tie.Need-slice-aggregate-put-2
--- slice_aggregate_put_2 c = search rules
-
 pub put-requires : goal.put-requires
 put-requires c = omega (
       arith,
@@ -19,12 +13,12 @@ put-requires c = omega (
       c.put_number-c.ensures.upper_bound,
       c.put_number-b.ensures.upper_bound,
       c.put-a.ensures.place,
-      c.put_number-f.auto.0,
-      c.put_number-e.auto.0,
-      c.put_number-d.auto.0,
-      c.put_number-c.auto.0,
-      c.put_number-b.auto.0,
-      c.put-a.auto.0,
+      c.put_number-f.auto.out,
+      c.put_number-e.auto.out,
+      c.put_number-d.auto.out,
+      c.put_number-c.auto.out,
+      c.put_number-b.auto.out,
+      c.put-a.auto.out,
       c.requires,
     )
 

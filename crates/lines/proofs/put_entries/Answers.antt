@@ -19,7 +19,7 @@ loop-i-preserved c = let l = c.loop-i in
     let a = c.args in
     let p = c.put-at in
     let e = c.entry_line-line.ensures in
-    let w : Wrote a.out.now 0 p.new.0 p.result (entry_lines (take (2 * (l.i + 1)) a.log.now)) =
+    let w : Wrote a.out.now 0 p.new.out p.result (entry_lines (take (2 * (l.i + 1)) a.log.now)) =
     rw (lines_more l.i a.log.now (omega arith), ← e) (wrote_then l.invariant.2 p.ensures) in
     (search rules, omega (arith, p.ensures.place, l.invariant.1, line_long _ _ e), w)
 
@@ -29,4 +29,4 @@ shape_of-out c = wrote_long c.loop-i.invariant.2
 pub returns : goal.returns
 returns c = let l = c.loop-i in
     let e : l.i ≡ c.args.entries = omega arith in
-    rw (← e) (l.invariant.2, l.invariant.1)
+    rw (← e) (record { wrote = l.invariant.2; value = l.invariant.1 })
