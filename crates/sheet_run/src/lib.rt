@@ -2,7 +2,7 @@
 #![tactic(auto)]
 
 ghost use Rattle.std.specs.Prelude.{◌≡◌, ◌+◌, ◌*◌, ◌≤◌, length, drop};
-ghost use Rattle.sheet.specs.Words.{words as Words·words};
+ghost use Rattle.sheet.specs.Words.{words as sheet_words};
 ghost use Rattle.sheet_run.specs.Run.{Heads, RunsSheet};
 
 use access::Progress;
@@ -14,7 +14,7 @@ pub mod print;
 // A sheet of this header, whose records and answers are these words.
 fn run_words(bytes: &mut [u8], log: &mut [u32], h: Header, words: &[u32]) -> Progress
     requires heads { Heads bytes.old h }
-    requires words_value { words.now ≡ Words·words (8 * h.records + h.answers) (drop 20 bytes.old) }
+    requires words_value { words.now ≡ sheet_words (8 * h.records + h.answers) (drop 20 bytes.old) }
     ensures { RunsSheet bytes.old log.old result log.new bytes.new }
 {
     let n = 8 * h.records;

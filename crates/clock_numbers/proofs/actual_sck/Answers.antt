@@ -13,12 +13,8 @@ returns-then-mod_div-gt255 c = gives (far_module c.args.pll c.args.mod_div (divi
 pub returns-in_default : goal.returns-in_default
 returns-in_default c = gives (ap (rate_of _ _) (sym c.divider_of-found.ensures ∙ c.in_default.is))
 
--- the divider that was found
-selected : (c : goal.In-Select-2) → divider_of c.args.kind c.args.count ≡ Select c.in-Select.divider
-selected c = sym c.divider_of-found.ensures ∙ c.in-Select.is
-
 pub returns-in_default-sck : goal.returns-in_default-sck
-returns-in_default-sck c = gives (ap (rate_of _ _) (selected c.before.before.before.before) ∙ sym c.actual_sck-sck.ensures ∙ ap answer c.in_default-sck.is)
+returns-in_default-sck c = gives (ap (rate_of _ _) (sym c.divider_of-found.ensures ∙ c.in-Select.is) ∙ sym c.actual_sck-sck.ensures ∙ ap answer c.in_default-sck.is)
 
 pub returns : goal.returns
-returns c = gives (ap (rate_of _ _) (selected c.before.before.before.before.before) ∙ sym c.actual_sck-sck.ensures ∙ ap answer c.in-Rate.is)
+returns c = gives (ap (rate_of _ _) (sym c.divider_of-found.ensures ∙ c.in-Select.is) ∙ sym c.actual_sck-sck.ensures ∙ ap answer c.in-Rate.is)
