@@ -5,7 +5,7 @@ use Prim.Native.Nat.{ℕ, zero, suc, ◌+◌, ◌-◌, ◌/◌, ◌≤◌, ◌<�
 use native.Mathlib.Omega.{arith}
 use native.Mathlib.Nat.{add-zero, add_assoc}
 use lib.ListN.{length, take, drop, length-drop}
-use lib.Seq.{take-length, take-append_seam, take-append-le, drop-append-le, drop-append-add}
+use lib.Seq.{take-length, take-append-le, drop-append-le, drop-append-add}
 use Rattle.model.specs.Steps.{then}
 use Rattle.model.specs.State.{advance}
 use Rattle.model.specs.Frame.{Inside}

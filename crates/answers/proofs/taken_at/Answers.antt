@@ -1,4 +1,3 @@
-use borrow.Author.Rules.{rules}
 use borrow.Author.Tests.{le-ltb, lt-ltb}
 use Rattle.answers.specs.Taken.{taken_at}
 use Rattle.answers.proofs.taken_at.Goals as goal

@@ -1,8 +1,5 @@
-use mathlib.Core.Path.{◌≡◌}
-use Prim.Native.Nat.{◌-◌, ◌/◌}
 use native.Mathlib.Omega.{arith}
-use lib.ListN.{length}
-use Rattle.chain.proofs.Running.{Running, running_none, running_starts, runs_on, running_stops, running_ends, running_less, running_on}
+use Rattle.chain.proofs.Running.{running_none, running_starts, runs_on, running_stops, running_ends, running_less, running_on}
 use borrow.Author.Rules.{rules}
 use Rattle.chain.proofs.run_chain.Goals as goal
 

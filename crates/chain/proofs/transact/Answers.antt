@@ -1,6 +1,4 @@
-use Rattle.access.proofs.Sequence.{begun_sound}
 use Rattle.chain.proofs.Entry.{accepted, refused_transacts, runs_transacts}
-use borrow.Author.Rules.{rules}
 use Rattle.chain.proofs.transact.Goals as goal
 
 pub returns-then-refused-ne0 : goal.returns-then-refused-ne0

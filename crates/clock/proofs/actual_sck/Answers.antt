@@ -1,5 +1,4 @@
 -- `clock::actual_sck` meets its contract, by cases as its definition goes. Assumes nothing.
-use borrow.Author.Rules.{rules}
 use borrow.Author.Tests.{lt-ltb, le-ltb}
 use Rattle.clock.proofs.Places.{cdr1_factor, cdr2_factor, factor_pos}
 use Rattle.clock.proofs.actual_sck.Goals as goal

@@ -1,5 +1,4 @@
 -- `clock::candidate_at` meets its contract. Assumes nothing.
-use borrow.Author.Rules.{rules}
 use Rattle.clock.proofs.candidate_at.Goals as goal
 
 pub returns : goal.returns

@@ -1,5 +1,4 @@
 -- `clock::divider_at` meets its contract: the test of the code is that of the definition. Assumes nothing.
-use borrow.Author.Rules.{rules}
 use borrow.Author.Tests.{lt-ltb, le-ltb}
 use Rattle.clock.proofs.divider_at.Goals as goal
 

@@ -1,6 +1,5 @@
 -- `clock::factor` meets its contract: a shift by less than 16 loses no bit. Assumes nothing.
 use mathlib.Core.Path.{◌∙◌}
-use borrow.Author.Rules.{rules}
 use borrow.Author.Tests.{lt-ltb, le-ltb}
 use lib.Dec.{lit<}
 use lib.Pow.{shl_exact}

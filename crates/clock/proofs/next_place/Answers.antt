@@ -1,5 +1,4 @@
 -- `clock::next_place` meets its contract: the tests of the code are those of the definition. Assumes nothing.
-use borrow.Author.Rules.{rules}
 use borrow.Author.Tests.{lt-ltb, le-ltb, le-leb, lt-leb}
 use Rattle.clock.specs.Skip.{next_place}
 use Rattle.clock.proofs.next_place.Goals as goal

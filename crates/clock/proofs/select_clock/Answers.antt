@@ -1,6 +1,6 @@
 -- `clock::select_clock` meets its contract. Both loops keep in `best` the lowest rank of the candidates passed. Assumes nothing.
 use mathlib.Core.Path.{◌≡◌, ◌∙◌, sym, ap}
-use Prim.Native.Nat.{◌+◌, ◌-◌, ◌*◌, ◌%◌, ◌≤◌, ◌<◌}
+use Prim.Native.Nat.{◌%◌, ◌≤◌, ◌<◌}
 use borrow.Author.Rules.{rules}
 use lib.Arith.{lt_of_le-ne}
 use native.Mathlib.Nat.{add-zero}
@@ -49,7 +49,7 @@ pub modules-preserved : goal.modules-preserved
 modules-preserved c = (
   omega arith,
   elim c.if-eligible.branch [
-    then-eligible+then-place-eq-PLACES w ↦ w.best-is ∙ module_scanned _ _ _ w.if-place-eq-PLACES.true w.places.invariant.1
+    | then-eligible+then-place-eq-PLACES w ↦ w.best-is ∙ module_scanned _ _ _ w.if-place-eq-PLACES.true w.places.invariant.1
     | else-eligible w ↦ w.best-is ∙ module_passed _ _ _ (sym c.eligible.ensures ∙ w.if-eligible.false) c.modules.invariant.1
   ],
 )
@@ -59,13 +59,13 @@ pub returns : goal.returns
 unfolding chosen
 returns c =
     let found : c.if-m-eq-MODULES.found ≡ lowest c.args.pll c.args.target 8_704 =
-      elim c.if-m-eq-MODULES.branch [
-        then-m-eq-MODULES w ↦ w.found-is ∙ rw w.if-m-eq-MODULES.true at c.modules.invariant.1
-        | else-m-eq-MODULES+then-eligible+else-place-eq-PLACES+then-best-lt-CANDIDATES w ↦
+    elim c.if-m-eq-MODULES.branch [
+      | then-m-eq-MODULES w ↦ w.found-is ∙ rw w.if-m-eq-MODULES.true at c.modules.invariant.1
+      | else-m-eq-MODULES+then-eligible+else-place-eq-PLACES+then-best-lt-CANDIDATES w ↦
           let m = lt_of_le-ne c.modules.invariant.0 w.if-m-eq-MODULES.false in
           let place = lt_of_le-ne w.places.invariant.0 w.if-place-eq-PLACES.false in
           let eligible = sym w.eligible.ensures ∙ w.if-eligible.true in
           let more = place_more _ _ _ _ place eligible w.places.invariant.1 w.factor.ensures w.rank_of.ensures w.least-best.ensures in
           w.found-is ∙ settled _ _ _ _ (within m place) more w.if-best-lt-CANDIDATES.true
-      ] in
+    ] in
     c.candidate_at.ensures ∙ ap (λ n. candidate (n % 8_704)) found

@@ -1,8 +1,6 @@
-use mathlib.Core.Path.{◌≡◌, ◌∙◌, ap, sym}
+use mathlib.Core.Path.{◌∙◌, ap, sym}
 use native.Mathlib.Omega.{arith}
-use borrow.Author.Rules.{rules}
 use Rattle.clock.specs.Answer.{answer}
-use Rattle.clock_numbers.specs.declared.DividerFound.TheVariants.{Select}
 use Rattle.clock_numbers.specs.Dividers.{divider_of, rate_of}
 use Rattle.clock_numbers.proofs.Rates.{gives, far_module}
 use Rattle.clock_numbers.proofs.actual_sck.Goals as goal

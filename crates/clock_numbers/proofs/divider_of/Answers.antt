@@ -1,5 +1,4 @@
 -- `divider_of` goes by the tests of its definition.
-use borrow.Author.Rules.{rules}
 use borrow.Author.Tests.{lt-ltb, le-ltb, eq-eqb, ne_eqb}
 use Rattle.clock_numbers.proofs.divider_of.Goals as goal
 

@@ -1,5 +1,4 @@
 use mathlib.Core.Path.{refl, sym, ◌∙◌}
-use borrow.Author.Rules.{rules}
 use Rattle.config_numbers.proofs.config_of.Goals as goal
 
 pub returns-in-Mode : goal.returns-in-Mode

@@ -1,5 +1,4 @@
 use mathlib.Core.Path.{refl}
-use borrow.Author.Rules.{rules}
 use Rattle.config_numbers.proofs.cs_config.Goals as goal
 
 pub returns-then-cs : goal.returns-then-cs

@@ -1,5 +1,4 @@
 use mathlib.Core.Path.{refl}
-use borrow.Author.Rules.{rules}
 use Rattle.config_numbers.proofs.spi_mode.Goals as goal
 
 pub returns : goal.returns

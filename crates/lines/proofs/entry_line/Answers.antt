@@ -1,5 +1,4 @@
 use Rattle.lines.specs.Text.{entry_line}
-use borrow.Author.Rules.{rules}
 use Rattle.lines.proofs.entry_line.Goals as goal
 
 pub returns : goal.returns

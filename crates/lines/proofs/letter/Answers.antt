@@ -1,5 +1,4 @@
 use Rattle.lines.proofs.TextLaws.{other_letter}
-use borrow.Author.Rules.{rules}
 use Rattle.lines.proofs.letter.Goals as goal
 
 pub returns-in_default : goal.returns-in_default

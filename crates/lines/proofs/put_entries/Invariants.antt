@@ -1,10 +1,7 @@
-use native.Mathlib.Omega.{arith}
-use Prim.Native.Nat.{◌+◌, ◌-◌, ◌*◌, ◌≤◌}
+use Prim.Native.Nat.{◌-◌, ◌*◌, ◌≤◌}
 use mathlib.Core.Path.{◌≡◌}
 use lib.ListN.{take}
-use Rattle.lines.proofs.TextLaws.{wrote_then, wrote_long, wrote_start, lines_more, line_long}
 use Rattle.lines.specs.Text.{entry_lines, Wrote}
-use borrow.Author.Rules.{rules}
 use Rattle.lines.proofs.put_entries.Given as goal
 
 abbrev pub invariant-loop-i : goal.invariant-loop-i

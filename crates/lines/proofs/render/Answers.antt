@@ -1,5 +1,4 @@
 use Rattle.lines.proofs.TextLaws.{wrote_then}
-use borrow.Author.Rules.{rules}
 use Rattle.lines.proofs.render.Goals as goal
 
 pub returns : goal.returns

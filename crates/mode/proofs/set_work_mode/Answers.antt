@@ -1,7 +1,6 @@
 use Rattle.mode.specs.Mode.{work_mode_steps}
 use Rattle.mode.proofs.Mode.{is_qpi_lem, is_not}
 use Rattle.access.proofs.Sequence.{then_does, then_works}
-use borrow.Author.Rules.{rules}
 use Rattle.mode.proofs.set_work_mode.Goals as goal
 
 pub returns-then-is_qpi : goal.returns-then-is_qpi

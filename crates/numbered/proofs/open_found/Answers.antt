@@ -1,5 +1,4 @@
 use Rattle.numbered.proofs.Found.{found_known, found_none}
-use borrow.Author.Rules.{rules}
 use Rattle.numbered.proofs.open_found.Goals as goal
 
 pub returns-in-Known : goal.returns-in-Known

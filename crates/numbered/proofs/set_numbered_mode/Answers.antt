@@ -1,6 +1,5 @@
 use mathlib.Core.Path.{sym, ◌∙◌}
 use Rattle.numbered.proofs.Found.{called_mode, called_none}
-use borrow.Author.Rules.{rules}
 use Rattle.numbered.proofs.set_numbered_mode.Goals as goal
 
 pub returns-in-Mode : goal.returns-in-Mode

@@ -1,6 +1,5 @@
 use Rattle.opening.specs.Steps.{opening_steps}
 use Rattle.access.proofs.Sequence.{then_works}
-use borrow.Author.Rules.{rules}
 use Rattle.opening.proofs.new.Goals as goal
 
 pub returns : goal.returns

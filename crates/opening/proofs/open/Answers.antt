@@ -1,6 +1,4 @@
 use Rattle.opening.proofs.Call.{accepted, refused_opens, runs_opens}
-use Rattle.access.proofs.Sequence.{begun_sound}
-use borrow.Author.Rules.{rules}
 use Rattle.opening.proofs.open.Goals as goal
 
 pub returns-then-refused-ne0 : goal.returns-then-refused-ne0

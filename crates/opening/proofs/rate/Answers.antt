@@ -1,5 +1,4 @@
 use mathlib.Core.Path.{ap}
-use borrow.Author.Rules.{rules}
 use Rattle.opening.proofs.rate.Goals as goal
 
 pub returns-in-Rate : goal.returns-in-Rate

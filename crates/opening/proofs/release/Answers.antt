@@ -1,5 +1,4 @@
 use Rattle.opening.specs.Steps.{release_steps}
-use borrow.Author.Rules.{rules}
 use Rattle.opening.proofs.release.Goals as goal
 
 pub returns : goal.returns

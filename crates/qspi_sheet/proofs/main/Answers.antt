@@ -1,7 +1,6 @@
 use native.Mathlib.Omega.{arith}
 use lib.ListN.{length-take}
 use Rattle.sheet_run.proofs.Entries.{prints_within}
-use borrow.Author.Rules.{rules}
 use Rattle.qspi_sheet.proofs.main.Goals as goal
 
 pub slice_bounds-text-end : goal.slice_bounds-text-end

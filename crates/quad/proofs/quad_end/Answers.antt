@@ -1,6 +1,5 @@
 use Rattle.quad.proofs.Quad.{closes, closes_done}
 use Rattle.quad.specs.Quad.{standard_mode}
-use borrow.Author.Rules.{rules}
 use Rattle.quad.proofs.quad_end.Goals as goal
 
 pub returns-then-number-eq0 : goal.returns-then-number-eq0

@@ -1,6 +1,5 @@
 use native.Mathlib.Omega.{arith}
 use lib.ListN.{length-take}
-use borrow.Author.Rules.{rules}
 use Rattle.quad.proofs.quad_read_start.Goals as goal
 
 pub slice_bounds-quad_start-end : goal.slice_bounds-quad_start-end

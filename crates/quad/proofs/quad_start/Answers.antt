@@ -1,6 +1,5 @@
 use Rattle.access.proofs.Sequence.{then_does}
 use Rattle.quad.specs.Quad.{quad_mode, quad_start}
-use borrow.Author.Rules.{rules}
 use Rattle.quad.proofs.quad_start.Goals as goal
 
 pub returns : goal.returns

@@ -1,6 +1,5 @@
 use Rattle.access.proofs.Sequence.{does_runs}
 use Rattle.quad.proofs.Quad.{quad_stops, quad_runs}
-use borrow.Author.Rules.{rules}
 use Rattle.quad.proofs.read_framed.Goals as goal
 
 pub returns-then-begun-ne0 : goal.returns-then-begun-ne0

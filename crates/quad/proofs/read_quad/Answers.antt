@@ -1,5 +1,4 @@
-use Rattle.quad.proofs.Framed.{frame_sent, frame_fits}
-use borrow.Author.Rules.{rules}
+use Rattle.quad.proofs.Framed.{frame_sent}
 use Rattle.quad.proofs.read_quad.Goals as goal
 
 pub returns : goal.returns

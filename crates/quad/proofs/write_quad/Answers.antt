@@ -1,5 +1,4 @@
 use Rattle.quad.proofs.Quad.{quad_stops, quad_does}
-use borrow.Author.Rules.{rules}
 use Rattle.quad.proofs.write_quad.Goals as goal
 
 pub returns-then-begun-ne0 : goal.returns-then-begun-ne0

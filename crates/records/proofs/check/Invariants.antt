@@ -1,12 +1,8 @@
-use Prim.Native.Nat.{ℕ, ◌-◌, ◌/◌, ◌≤◌, ◌<◌}
-use mathlib.Core.Path.{◌≡◌, sym, ap, ◌∙◌}
+use Prim.Native.Nat.{◌-◌, ◌/◌, ◌≤◌}
+use mathlib.Core.Path.{◌≡◌}
 use lib.ListN.{length}
-use native.Mathlib.Omega.{arith}
-use borrow.Author.Rules.{rules}
-use borrow.Author.Tests.{ne_eqb}
-use Rattle.records.specs.declared.Verdict.{Verdict}
-use Rattle.records.specs.Check.{record_at, next_of, record_fault, checked, verdict}
-use Rattle.records.proofs.WalkLaws.{whole_empty, whole_from, fault_at, next_at, from, from_fault, from_last, from_on, passed}
+use Rattle.records.specs.Check.{checked, verdict}
+use Rattle.records.proofs.WalkLaws.{from}
 use Rattle.records.proofs.check.Given as goal
 
 abbrev pub invariant-loop-r : goal.invariant-loop-r

@@ -1,7 +1,6 @@
 use mathlib.Core.Bool.{or-false}
 use Rattle.records.specs.Check.{out_of_range}
 use Rattle.records.proofs.KindLaws.{no_caps}
-use borrow.Author.Rules.{rules}
 use Rattle.records.proofs.out_of_range.Goals as goal
 
 pub returns-in-7 : goal.returns-in-7

@@ -1,4 +1,3 @@
-use borrow.Author.Rules.{rules}
 use Rattle.records.proofs.too_long.Goals as goal
 
 pub returns-then-e : goal.returns-then-e

@@ -1,6 +1,5 @@
 use mathlib.Core.Path.{sym, ◌∙◌}
 use Rattle.records.specs.Check.{extents_fault}
-use borrow.Author.Rules.{rules}
 use Rattle.records.proofs.window_fault.Goals as goal
 
 pub returns-then-outside : goal.returns-then-outside

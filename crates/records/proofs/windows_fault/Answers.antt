@@ -1,6 +1,5 @@
 use Rattle.records.specs.Check.{windows_fault, extents_fault}
 use Rattle.records.proofs.KindLaws.{no_windows}
-use borrow.Author.Rules.{rules}
 use Rattle.records.proofs.windows_fault.Goals as goal
 
 pub returns-in-1 : goal.returns-in-1

@@ -1,11 +1,8 @@
 use Prim.Native.Nat.{◌-◌, ◌≤◌}
-use mathlib.Core.Path.{◌≡◌, refl}
+use mathlib.Core.Path.{◌≡◌}
 use mathlib.Core.List.{◌++◌}
-use lib.ListN.{length, drop, length-set}
-use native.Mathlib.Omega.{arith}
-use borrow.Author.Rules.{rules}
+use lib.ListN.{length, drop}
 use Rattle.sheet.specs.Words.{words}
-use Rattle.sheet.proofs.OpenLaws.{filled_more, filled_all}
 use Rattle.sheet.proofs.fill.Given as goal
 
 abbrev pub invariant-loop-i : goal.invariant-loop-i

@@ -1,4 +1,3 @@
-use borrow.Author.Rules.{rules}
 use native.Mathlib.Omega.{arith}
 use Rattle.sheet.proofs.SheetLaws.{Accepted}
 use Rattle.sheet.proofs.OpenLaws.{refuse, accept}

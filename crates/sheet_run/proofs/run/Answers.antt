@@ -1,6 +1,5 @@
 use mathlib.Core.Path.{sym, ◌∙◌}
 use Rattle.sheet_run.proofs.Sheets.{heads, sheet_refused}
-use borrow.Author.Rules.{rules}
 use Rattle.sheet_run.proofs.run.Goals as goal
 
 pub run_opened-requires : goal.run_opened-requires

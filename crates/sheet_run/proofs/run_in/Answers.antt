@@ -1,7 +1,6 @@
 use native.Mathlib.Omega.{arith}
 use Prim.Native.Nat.{◌+◌, ◌*◌}
 use lib.ListN.{drop, length-take}
-use borrow.Author.Rules.{rules}
 use Rattle.sheet_run.proofs.Sheets.{read_count, read_words}
 use Rattle.sheet_run.proofs.run_in.Goals as goal
 
@@ -19,5 +18,5 @@ pub run_words-requires : goal.run_words-requires
 run_words-requires c = record {
   heads = c.requires.heads;
   words_value = read_words (8 * c.args.h.records + c.args.h.answers) c.args.room.now (drop 20 c.args.bytes.now)
-          (drop (8 * c.args.h.records + c.args.h.answers) c.args.room.now) c.requires.answers_in_bounds c.fill.ensures;
+      (drop (8 * c.args.h.records + c.args.h.answers) c.args.room.now) c.requires.answers_in_bounds c.fill.ensures;
 }

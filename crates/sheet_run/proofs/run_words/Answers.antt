@@ -2,7 +2,6 @@ use mathlib.Core.Path.{sym}
 use native.Mathlib.Omega.{arith}
 use Prim.Native.Nat.{◌*◌}
 use lib.Seq.{length-take-le}
-use borrow.Author.Rules.{rules}
 use Rattle.sheet_run.proofs.Sheets.{held_count, held_front, held_behind, sheet_runs}
 use Rattle.sheet_run.proofs.run_words.Goals as goal
 

@@ -1,6 +1,5 @@
 use Rattle.transfer.specs.Transfer.{transfer_steps}
 use Rattle.access.proofs.Sequence.{then_runs, does_runs}
-use borrow.Author.Rules.{rules}
 use Rattle.transfer.proofs.transfer.Goals as goal
 
 pub returns : goal.returns

@@ -1,10 +1,7 @@
-use mathlib.Core.Path.{◌≡◌}
-use Prim.Native.Nat.{◌-◌}
 use native.Mathlib.Omega.{arith}
 use native.Mathlib.Nat.{add-sub_cancel_left}
-use lib.ListN.{length}
 use Rattle.transfer.specs.Transfer.{in_place_steps}
-use Rattle.access.proofs.Through.{Through, through_starts, through_stops, through_done}
+use Rattle.access.proofs.Through.{through_starts, through_stops, through_done}
 use Rattle.transfer.proofs.Parts.{in_place_ends, exchanging_more}
 use borrow.Author.Rules.{rules}
 use Rattle.transfer.proofs.transfer_in_place.Goals as goal

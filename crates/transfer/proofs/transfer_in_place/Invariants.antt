@@ -1,12 +1,8 @@
 use mathlib.Core.Path.{◌≡◌}
 use Prim.Native.Nat.{◌-◌}
-use native.Mathlib.Omega.{arith}
-use native.Mathlib.Nat.{add-sub_cancel_left}
 use lib.ListN.{length}
 use Rattle.transfer.specs.Transfer.{in_place_steps}
-use Rattle.access.proofs.Through.{Through, through_starts, through_stops, through_done}
-use Rattle.transfer.proofs.Parts.{in_place_ends, exchanging_more}
-use borrow.Author.Rules.{rules}
+use Rattle.access.proofs.Through.{Through}
 use Rattle.transfer.proofs.transfer_in_place.Given as goal
 
 abbrev pub invariant-loop-idx : goal.invariant-loop-idx

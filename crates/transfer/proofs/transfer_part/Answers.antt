@@ -1,6 +1,5 @@
 use lib.Seq.{take-append_seam}
 use Rattle.transfer.proofs.Parts.{part_runs}
-use borrow.Author.Rules.{rules}
 use Rattle.transfer.proofs.transfer_part.Goals as goal
 
 pub returns : goal.returns

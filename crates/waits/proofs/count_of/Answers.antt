@@ -1,5 +1,4 @@
 use native.Mathlib.Omega.{arith}
-use borrow.Author.Rules.{rules}
 use Rattle.waits.proofs.count_of.Goals as goal
 
 pub returns-then-used-lt-FIFO_DEPTH : goal.returns-then-used-lt-FIFO_DEPTH

@@ -1,5 +1,4 @@
 use mathlib.Core.Bool.{not-not}
-use borrow.Author.Rules.{rules}
 use Rattle.waits.proofs.is_ready.Goals as goal
 
 pub returns-in-Space : goal.returns-in-Space

@@ -1,11 +1,7 @@
 -- Each turn of the loop is one more poll of the wait.
-use mathlib.Core.Path.{◌≡◌}
-use Prim.Native.Nat.{◌+◌, ◌-◌, ◌^◌, ◌<◌}
 use native.Mathlib.Omega.{arith}
 use borrow.Author.Rules.{rules}
-use lib.ListN.{length}
-use Rattle.access.specs.Of.{cause_of}
-use Rattle.waits.proofs.Polling.{Polling, polling_starts, polling_stops, polling_ready, polling_again, polling_late}
+use Rattle.waits.proofs.Polling.{polling_starts, polling_stops, polling_ready, polling_again, polling_late}
 use Rattle.waits.proofs.poll_until_ready.Goals as goal
 
 pub loop-cause-init : goal.loop-cause-init

@@ -1,5 +1,4 @@
 use Rattle.waits.proofs.Sequence.{waits_does}
-use borrow.Author.Rules.{rules}
 use Rattle.waits.proofs.wait_tx_drained.Goals as goal
 
 pub returns : goal.returns

@@ -1,10 +1,7 @@
-use native.Mathlib.Omega.{arith}
-use lib.ListN.{length-take, length-drop}
 use native.Mathlib.Nat.{add-sub_cancel_left}
-use Rattle.quad.proofs.Framed.{frame_sent, frame_fits}
+use Rattle.quad.proofs.Framed.{frame_sent}
 use Rattle.windows.proofs.Parts.{looks_runs, quad_window}
 use Rattle.windows.specs.Windows.{read_quad_windows}
-use borrow.Author.Rules.{rules}
 use Rattle.windows.proofs.read_quad.Goals as goal
 
 pub returns : goal.returns

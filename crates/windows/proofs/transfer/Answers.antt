@@ -2,7 +2,6 @@ use Rattle.transfer.specs.Transfer.{transfer_steps}
 use Rattle.access.proofs.Sequence.{then_runs}
 use Rattle.windows.proofs.Parts.{looks_runs, looked}
 use Rattle.windows.specs.Windows.{write_window, transfer_windows}
-use borrow.Author.Rules.{rules}
 use Rattle.windows.proofs.transfer.Goals as goal
 
 pub returns : goal.returns

@@ -1,7 +1,6 @@
 use mathlib.Core.Path.{refl}
 use native.Mathlib.Nat.{add-sub_cancel_left}
 use Rattle.windows.specs.Windows.{window}
-use borrow.Author.Rules.{rules}
 use Rattle.windows.proofs.window.Goals as goal
 
 pub returns : goal.returns

@@ -1,6 +1,5 @@
 use native.Mathlib.Omega.{arith}
 use lib.ListN.{length-set}
-use borrow.Author.Rules.{rules}
 use Rattle.access.proofs.entry.log_entry.Goals as goal
 
 pub bounds-log-at-2 : goal.bounds-log-at-2

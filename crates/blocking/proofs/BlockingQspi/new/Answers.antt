@@ -1,5 +1,4 @@
 use Rattle.blocking.proofs.Handed.{shut, opened}
-use borrow.Author.Rules.{rules}
 use Rattle.blocking.proofs.BlockingQspi.new.Goals as goal
 
 pub returns-then-progress-ne0 : goal.returns-then-progress-ne0

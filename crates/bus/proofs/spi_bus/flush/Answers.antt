@@ -2,7 +2,6 @@ use Rattle.bus.proofs.Entry.{begins, refused_called, does_called}
 use Rattle.bus.specs.Calls.Call.{flush}
 use Rattle.bus.specs.Calls.{steps_of, lengths_of, too_long, refusal}
 use mathlib.Core.Path.{refl}
-use borrow.Author.Rules.{rules}
 use Rattle.bus.proofs.spi_bus.flush.Goals as goal
 
 pub returns-then-refused-ne0 : goal.returns-then-refused-ne0

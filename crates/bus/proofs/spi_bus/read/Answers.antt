@@ -3,7 +3,6 @@ use Rattle.bus.specs.Calls.Call.{read}
 use Rattle.bus.specs.Calls.{steps_of, lengths_of, too_long, refusal}
 use Rattle.access.proofs.Sequence.{begun_sound}
 use mathlib.Core.Path.{refl}
-use borrow.Author.Rules.{rules}
 use Rattle.bus.proofs.spi_bus.read.Goals as goal
 
 pub returns-then-refused-ne0 : goal.returns-then-refused-ne0

@@ -2,7 +2,6 @@ use Rattle.bus.proofs.Entry.{begins, refused_called_on, runs_called_on}
 use Rattle.bus.specs.Calls.Call.{transfer_in_place}
 use Rattle.bus.specs.Calls.{steps_of, lengths_of, too_long, refusal}
 use mathlib.Core.Path.{refl}
-use borrow.Author.Rules.{rules}
 use Rattle.bus.proofs.spi_bus.transfer_in_place.Goals as goal
 
 pub returns-then-refused-ne0 : goal.returns-then-refused-ne0

@@ -1,5 +1,4 @@
 use Rattle.changes.proofs.Changes.{changes}
-use borrow.Author.Rules.{rules}
 use Rattle.changes.proofs.modes.set_lines.Goals as goal
 
 pub returns : goal.returns

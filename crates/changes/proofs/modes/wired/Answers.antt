@@ -1,4 +1,3 @@
-use borrow.Author.Rules.{rules}
 use Rattle.changes.proofs.modes.wired.Goals as goal
 
 pub returns-then-on : goal.returns-then-on

@@ -1,7 +1,6 @@
 use mathlib.Core.Path.{◌∙◌, ap}
 use Rattle.model.specs.Field.{set_field}
 use Rattle.changes.proofs.Changes.{changes}
-use borrow.Author.Rules.{rules}
 use Rattle.changes.proofs.phases.set_single_line.Goals as goal
 
 pub returns : goal.returns

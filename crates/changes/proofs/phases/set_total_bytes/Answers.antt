@@ -1,5 +1,4 @@
 use Rattle.changes.proofs.Changes.{changes}
-use borrow.Author.Rules.{rules}
 use Rattle.changes.proofs.phases.set_total_bytes.Goals as goal
 
 pub returns : goal.returns

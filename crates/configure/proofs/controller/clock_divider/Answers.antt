@@ -1,4 +1,3 @@
-use borrow.Author.Rules.{rules}
 use Rattle.configure.proofs.controller.clock_divider.Goals as goal
 
 pub returns-in-Cdr1 : goal.returns-in-Cdr1

@@ -1,7 +1,6 @@
 use Rattle.configure.specs.Steps.{controller_clock}
 use Rattle.configure.proofs.Configure.{divides}
 use Rattle.access.proofs.Sequence.{then_works, acts_works}
-use borrow.Author.Rules.{rules}
 use Rattle.configure.proofs.controller.configure_clock.Goals as goal
 
 pub returns : goal.returns

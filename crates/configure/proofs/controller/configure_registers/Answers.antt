@@ -1,6 +1,5 @@
 use Rattle.configure.specs.Steps.{register_steps}
 use Rattle.access.proofs.Sequence.{then_works}
-use borrow.Author.Rules.{rules}
 use Rattle.configure.proofs.controller.configure_registers.Goals as goal
 
 pub returns : goal.returns

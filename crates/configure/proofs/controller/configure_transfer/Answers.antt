@@ -1,7 +1,6 @@
 use Rattle.configure.specs.Steps.{transfer_config}
 use Rattle.configure.proofs.Configure.{formats}
 use Rattle.access.proofs.Sequence.{then_works}
-use borrow.Author.Rules.{rules}
 use Rattle.configure.proofs.controller.configure_transfer.Goals as goal
 
 pub returns : goal.returns

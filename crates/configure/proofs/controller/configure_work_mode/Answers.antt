@@ -1,6 +1,5 @@
 use Rattle.configure.proofs.Configure.{in_bytes_lem, not_in_bytes}
 use Rattle.access.proofs.Sequence.{then_works}
-use borrow.Author.Rules.{rules}
 use Rattle.configure.proofs.controller.configure_work_mode.Goals as goal
 
 pub returns-then-three_wire_bytes : goal.returns-then-three_wire_bytes

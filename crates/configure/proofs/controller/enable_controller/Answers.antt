@@ -1,6 +1,5 @@
 use Rattle.configure.specs.Steps.{controller_on}
 use Rattle.access.proofs.Sequence.{then_works}
-use borrow.Author.Rules.{rules}
 use Rattle.configure.proofs.controller.enable_controller.Goals as goal
 
 pub returns : goal.returns

@@ -1,6 +1,5 @@
 use Rattle.configure.specs.Steps.{fifo_steps}
 use Rattle.access.proofs.Sequence.{then_works, acts_works}
-use borrow.Author.Rules.{rules}
 use Rattle.configure.proofs.controller.init_fifos.Goals as goal
 
 pub returns : goal.returns

@@ -1,4 +1,3 @@
-use borrow.Author.Rules.{rules}
 use Rattle.configure.proofs.controller.work_mode_lines.Goals as goal
 
 pub returns-in-Standard : goal.returns-in-Standard

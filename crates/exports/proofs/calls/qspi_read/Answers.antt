@@ -1,5 +1,4 @@
 use Rattle.exports.proofs.Counts.{gives_on}
-use borrow.Author.Rules.{rules}
 use Rattle.exports.proofs.calls.qspi_read.Goals as goal
 
 pub returns : goal.returns

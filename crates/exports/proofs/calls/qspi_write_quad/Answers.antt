@@ -1,5 +1,4 @@
 use Rattle.exports.proofs.Counts.{gives}
-use borrow.Author.Rules.{rules}
 use Rattle.exports.proofs.calls.qspi_write_quad.Goals as goal
 
 pub returns : goal.returns

@@ -1,5 +1,4 @@
 use mathlib.Core.Path.{◌∙◌, ap}
-use borrow.Author.Rules.{rules}
 use Rattle.clock_numbers.specs.Dividers.{kind_of, count_of}
 use Rattle.exports.proofs.clocks.qspi_select_clock.Goals as goal
 

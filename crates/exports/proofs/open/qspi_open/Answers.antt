@@ -1,5 +1,4 @@
 use Rattle.exports.proofs.Counts.{opening_gives}
-use borrow.Author.Rules.{rules}
 use Rattle.exports.proofs.open.qspi_open.Goals as goal
 
 pub returns : goal.returns

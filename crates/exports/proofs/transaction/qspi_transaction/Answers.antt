@@ -1,5 +1,4 @@
 use Rattle.exports.proofs.Counts.{gives_on}
-use borrow.Author.Rules.{rules}
 use Rattle.exports.proofs.transaction.qspi_transaction.Goals as goal
 
 pub returns : goal.returns

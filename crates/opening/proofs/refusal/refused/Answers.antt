@@ -2,7 +2,6 @@ use mathlib.Core.Path.{sym, ap, ◌∙◌}
 use mathlib.Core.Bool.{not}
 use borrow.Author.Tests.{eq-eqb, ne_eqb, lt-ltb, le-ltb}
 use Rattle.opening.specs.Call.{refusal}
-use borrow.Author.Rules.{rules}
 use Rattle.opening.proofs.refusal.refused.Goals as goal
 
 pub returns-then-not-is_supported : goal.returns-then-not-is_supported

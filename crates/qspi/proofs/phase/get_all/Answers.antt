@@ -1,9 +1,5 @@
-use mathlib.Core.Path.{◌≡◌}
-use Prim.Native.Nat.{◌-◌}
-use native.Mathlib.Omega.{arith}
 use borrow.Author.Rules.{rules}
-use lib.ListN.{length}
-use Rattle.qspi.proofs.Bytes.{Getting, getting_starts, getting_more, getting_stops, getting_done}
+use Rattle.qspi.proofs.Bytes.{getting_starts, getting_more, getting_stops, getting_done}
 use Rattle.qspi.proofs.phase.get_all.Goals as goal
 
 pub loop-i-init : goal.loop-i-init

@@ -1,9 +1,7 @@
 use mathlib.Core.Path.{◌≡◌}
 use Prim.Native.Nat.{◌-◌}
-use native.Mathlib.Omega.{arith}
-use borrow.Author.Rules.{rules}
 use lib.ListN.{length}
-use Rattle.qspi.proofs.Bytes.{Getting, getting_starts, getting_more, getting_stops, getting_done}
+use Rattle.qspi.proofs.Bytes.{Getting}
 use Rattle.qspi.proofs.phase.get_all.Given as goal
 
 abbrev pub invariant-loop-i : goal.invariant-loop-i

@@ -1,6 +1,5 @@
 use Rattle.qspi.specs.Phases.{program_transfer}
 use Rattle.access.proofs.Sequence.{then_works}
-use borrow.Author.Rules.{rules}
 use Rattle.qspi.proofs.phase.program_transfer.Goals as goal
 
 pub returns : goal.returns

@@ -1,10 +1,8 @@
-use mathlib.Core.Path.{◌≡◌, refl}
-use Prim.Native.Nat.{◌-◌}
+use mathlib.Core.Path.{refl}
 use native.Mathlib.Omega.{arith}
 use native.Mathlib.Nat.{add-sub_cancel_left}
 use borrow.Author.Rules.{rules}
-use lib.ListN.{length}
-use Rattle.access.proofs.Through.{Through, through_starts, through_done}
+use Rattle.access.proofs.Through.{through_starts, through_done}
 use Rattle.qspi.proofs.Bytes.{reading, reading_ends, reading_more, reading_stops, some_count}
 use Rattle.qspi.proofs.phase.read_bytes.Goals as goal
 
@@ -16,12 +14,12 @@ returns-then-number-ne0 c = reading_stops c.loop-idx.invariant.1 (search rules) 
 
 pub loop-idx-smaller : goal.loop-idx-smaller
 loop-idx-smaller c = omega (
-      arith,
-      c.least-len.ensures,
-      c.loop-idx-test.true,
-      c.loop-idx.invariant.1.same,
-      some_count (λ _. refl) c.wait-waited.ensures c.if-number-ne0.false,
-    )
+  arith,
+  c.least-len.ensures,
+  c.loop-idx-test.true,
+  c.loop-idx.invariant.1.same,
+  some_count (λ _. refl) c.wait-waited.ensures c.if-number-ne0.false,
+)
 
 pub loop-idx-preserved : goal.loop-idx-preserved
 loop-idx-preserved c = (

@@ -1,11 +1,8 @@
-use mathlib.Core.Path.{◌≡◌, refl}
+use mathlib.Core.Path.{◌≡◌}
 use Prim.Native.Nat.{◌-◌}
-use native.Mathlib.Omega.{arith}
-use native.Mathlib.Nat.{add-sub_cancel_left}
-use borrow.Author.Rules.{rules}
 use lib.ListN.{length}
-use Rattle.access.proofs.Through.{Through, through_starts, through_done}
-use Rattle.qspi.proofs.Bytes.{reading, reading_ends, reading_more, reading_stops, some_count}
+use Rattle.access.proofs.Through.{Through}
+use Rattle.qspi.proofs.Bytes.{reading}
 use Rattle.qspi.proofs.phase.read_bytes.Given as goal
 
 abbrev pub invariant-loop-idx : goal.invariant-loop-idx

@@ -1,6 +1,5 @@
 use Rattle.qspi.specs.Phases.{reset_fifos}
 use Rattle.access.proofs.Sequence.{acts_works, then_works}
-use borrow.Author.Rules.{rules}
 use Rattle.qspi.proofs.phase.reset_fifos.Goals as goal
 
 pub returns : goal.returns

@@ -1,5 +1,3 @@
-use mathlib.Core.Path.{◌∙◌}
-use Prim.Native.Nat.{◌<◌}
 use Rattle.access.proofs.Sequence.{then_works, then_runs, does_runs}
 use Rattle.qspi.specs.Phases.{begin_transfer}
 use Rattle.qspi.proofs.Sequence.{rx_none, rx_some}

@@ -1,8 +1,5 @@
-use mathlib.Core.Path.{◌≡◌}
-use Prim.Native.Nat.{◌-◌}
 use borrow.Author.Rules.{rules}
-use lib.ListN.{length}
-use Rattle.qspi.proofs.Bytes.{Sending, sending_starts, sending_more, sending_stops, sending_done}
+use Rattle.qspi.proofs.Bytes.{sending_starts, sending_more, sending_stops, sending_done}
 use Rattle.qspi.proofs.phase.send_all.Goals as goal
 
 pub loop-i-init : goal.loop-i-init

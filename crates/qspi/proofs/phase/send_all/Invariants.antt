@@ -1,8 +1,7 @@
 use mathlib.Core.Path.{◌≡◌}
 use Prim.Native.Nat.{◌-◌}
-use borrow.Author.Rules.{rules}
 use lib.ListN.{length}
-use Rattle.qspi.proofs.Bytes.{Sending, sending_starts, sending_more, sending_stops, sending_done}
+use Rattle.qspi.proofs.Bytes.{Sending}
 use Rattle.qspi.proofs.phase.send_all.Given as goal
 
 abbrev pub invariant-loop-i : goal.invariant-loop-i

@@ -1,6 +1,5 @@
 use Rattle.qspi.specs.Phases.{start_transfer}
 use Rattle.access.proofs.Sequence.{then_works}
-use borrow.Author.Rules.{rules}
 use Rattle.qspi.proofs.phase.start_transfer.Goals as goal
 
 pub returns : goal.returns

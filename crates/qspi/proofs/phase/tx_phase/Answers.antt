@@ -1,8 +1,6 @@
 use Rattle.access.proofs.Sequence.{then_works, then_does}
 use Rattle.qspi.specs.Phases.{begin_transfer}
 use Rattle.qspi.proofs.Sequence.{tx_none, tx_some}
-use mathlib.Core.Path.{◌∙◌}
-use Prim.Native.Nat.{◌<◌}
 use borrow.Author.Rules.{rules}
 use Rattle.qspi.proofs.phase.tx_phase.Goals as goal
 

@@ -1,10 +1,8 @@
-use mathlib.Core.Path.{◌≡◌, refl}
-use Prim.Native.Nat.{◌-◌}
+use mathlib.Core.Path.{refl}
 use native.Mathlib.Omega.{arith}
 use native.Mathlib.Nat.{add-sub_cancel_left}
 use borrow.Author.Rules.{rules}
-use lib.ListN.{length}
-use Rattle.qspi.proofs.Bytes.{Writing, writing_starts, writing_more, writing_stops, writing_done, some_count}
+use Rattle.qspi.proofs.Bytes.{writing_starts, writing_more, writing_stops, writing_done, some_count}
 use Rattle.qspi.proofs.phase.write_bytes.Goals as goal
 
 pub loop-idx-init : goal.loop-idx-init

@@ -1,10 +1,7 @@
-use mathlib.Core.Path.{◌≡◌, refl}
+use mathlib.Core.Path.{◌≡◌}
 use Prim.Native.Nat.{◌-◌}
-use native.Mathlib.Omega.{arith}
-use native.Mathlib.Nat.{add-sub_cancel_left}
-use borrow.Author.Rules.{rules}
 use lib.ListN.{length}
-use Rattle.qspi.proofs.Bytes.{Writing, writing_starts, writing_more, writing_stops, writing_done, some_count}
+use Rattle.qspi.proofs.Bytes.{Writing}
 use Rattle.qspi.proofs.phase.write_bytes.Given as goal
 
 abbrev pub invariant-loop-idx : goal.invariant-loop-idx

@@ -1,8 +1,5 @@
 use mathlib.Core.Path.{refl}
-use native.Mathlib.Omega.{arith}
-use lib.ListN.{length-take}
 use Rattle.quad.proofs.Framed.{frames}
-use borrow.Author.Rules.{rules}
 use Rattle.quad.proofs.frame.quad_frame.Goals as goal
 
 pub returns : goal.returns

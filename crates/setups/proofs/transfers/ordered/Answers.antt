@@ -1,4 +1,3 @@
-use borrow.Author.Rules.{rules}
 use Rattle.setups.proofs.transfers.ordered.Goals as goal
 
 pub returns-then-lsb_first : goal.returns-then-lsb_first

@@ -1,4 +1,3 @@
-use borrow.Author.Rules.{rules}
 use Rattle.setups.proofs.transfers.sampled.Goals as goal
 
 pub returns-then-slow : goal.returns-then-slow

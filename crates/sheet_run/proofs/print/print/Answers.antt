@@ -2,7 +2,6 @@ use Prim.Native.Nat.{ℕ}
 use native.Mathlib.Omega.{arith}
 use lib.ListN.{length-replicate}
 use Rattle.sheet_run.proofs.Entries.{prints_fit, prints}
-use borrow.Author.Rules.{rules}
 use Rattle.sheet_run.proofs.print.print.Goals as goal
 
 pub render-length-requires : goal.render-length-requires

@@ -1,4 +1,3 @@
-use borrow.Author.Rules.{rules}
 use Rattle.access.proofs.entry.Act.head.Goals as goal
 
 pub returns-in-Write : goal.returns-in-Write

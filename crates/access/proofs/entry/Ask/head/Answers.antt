@@ -1,4 +1,3 @@
-use borrow.Author.Rules.{rules}
 use Rattle.access.proofs.entry.Ask.head.Goals as goal
 
 pub returns-in-Register : goal.returns-in-Register

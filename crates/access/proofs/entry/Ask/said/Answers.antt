@@ -1,4 +1,3 @@
-use borrow.Author.Rules.{rules}
 use Rattle.access.proofs.entry.Ask.said.Goals as goal
 
 pub returns-in-Byte : goal.returns-in-Byte

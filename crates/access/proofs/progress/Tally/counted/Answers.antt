@@ -1,5 +1,4 @@
 use native.Mathlib.Omega.{arith}
-use borrow.Author.Rules.{rules}
 use Rattle.access.proofs.Count.{count_ready, count_unready}
 use Rattle.access.proofs.progress.Tally.counted.Goals as goal
 

@@ -1,4 +1,3 @@
-use borrow.Author.Rules.{rules}
 use Rattle.changes.proofs.change.Change.apply.Goals as goal
 
 pub returns-in-Clock : goal.returns-in-Clock

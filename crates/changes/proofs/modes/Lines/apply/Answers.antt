@@ -1,6 +1,5 @@
 use mathlib.Core.Path.{◌∙◌, ap}
 use Rattle.model.specs.Field.{set_field}
-use borrow.Author.Rules.{rules}
 use Rattle.changes.proofs.modes.Lines.apply.Goals as goal
 
 pub returns-in-One : goal.returns-in-One

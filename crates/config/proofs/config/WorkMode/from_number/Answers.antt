@@ -1,4 +1,3 @@
-use borrow.Author.Rules.{rules}
 use native.Mathlib.Omega.{arith}
 use Rattle.config.specs.Config.{work_modes}
 use Rattle.config.proofs.WorkModes.{within, past_end}

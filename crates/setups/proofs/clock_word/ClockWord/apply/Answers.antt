@@ -1,4 +1,3 @@
-use borrow.Author.Rules.{rules}
 use Rattle.setups.proofs.clock_word.ClockWord.apply.Goals as goal
 
 pub returns-in-On : goal.returns-in-On

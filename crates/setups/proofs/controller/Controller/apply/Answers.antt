@@ -1,4 +1,3 @@
-use borrow.Author.Rules.{rules}
 use Rattle.setups.proofs.controller.Controller.apply.Goals as goal
 
 pub returns-in-Reset : goal.returns-in-Reset
@@ -12,18 +11,18 @@ returns-in-Cdr2 c = rw (c.in-Cdr2.is, c.set_clk_div_2.ensures, c.set_clock_divid
 
 pub returns-in-On : goal.returns-in-On
 returns-in-On c = rw (
-      c.in-On.is,
-      c.enable_rx_full_stop.ensures,
-      c.enable_ctrl.ensures,
-      c.set_ctrl_rst-in-On.ensures,
-      c.set_ctrl_mode.ensures,
-    )
+  c.in-On.is,
+  c.enable_rx_full_stop.ensures,
+  c.enable_ctrl.ensures,
+  c.set_ctrl_rst-in-On.ensures,
+  c.set_ctrl_mode.ensures,
+)
 
 pub returns-in-Fifos : goal.returns-in-Fifos
 returns-in-Fifos c = rw (
-      c.in-Fifos.is,
-      c.set_rx_fifo_water_mark.ensures,
-      c.set_tx_fifo_water_mark.ensures,
-      c.reset_rx_fifo.ensures,
-      c.reset_tx_fifo.ensures,
-    )
+  c.in-Fifos.is,
+  c.set_rx_fifo_water_mark.ensures,
+  c.set_tx_fifo_water_mark.ensures,
+  c.reset_rx_fifo.ensures,
+  c.reset_tx_fifo.ensures,
+)

@@ -1,16 +1,15 @@
-use borrow.Author.Rules.{rules}
 use Rattle.setups.proofs.transfers.Transfer.apply.Goals as goal
 
 pub returns-in-Format : goal.returns-in-Format
 returns-in-Format c = rw (
-      c.in-Format.is,
-      c.ordered.ensures,
-      c.enable_tx_data_delay-config.ensures,
-      c.set_cs_ctrl_mode.ensures,
-      c.set_clk_pol.ensures,
-      c.set_clk_pha.ensures,
-      c.enable_discard_invalid_data.ensures,
-    )
+  c.in-Format.is,
+  c.ordered.ensures,
+  c.enable_tx_data_delay-config.ensures,
+  c.set_cs_ctrl_mode.ensures,
+  c.set_clk_pol.ensures,
+  c.set_clk_pha.ensures,
+  c.enable_discard_invalid_data.ensures,
+)
 
 pub returns-in-ChipSelect : goal.returns-in-ChipSelect
 returns-in-ChipSelect c = rw (c.in-ChipSelect.is, c.set_cs_pin_num.ensures, c.set_cs_level.ensures, c.set_cs_pol.ensures)
