@@ -1,7 +1,7 @@
 // The text of a list of cases: where a case ends, the numbers of its line, and whether two texts are the same.
 #![tactic(auto)]
 
-ghost use Rattle.std.specs.Prelude.{◌≡◌, ◌≤◌, ◌^◌, length};
+ghost use Rattle.std.specs.Prelude.{◌≡◌, ◌+◌, ◌≤◌, ◌^◌, length};
 ghost use Rattle.cases.specs.Number.{digit_of, step, value_of, is_hex, number_of};
 ghost use Rattle.cases.specs.Ends.{ends_at, end_from};
 ghost use Rattle.cases.specs.Find.{index_of, part_of};

@@ -1,9 +1,6 @@
-use lib.ListN.{length}
-use Prim.Native.Nat.{◌-◌, ◌≤◌}
-use mathlib.Core.Path.{◌≡◌, refl, sym, ◌∙◌}
+use mathlib.Core.Path.{refl, sym, ◌∙◌}
 use borrow.Author.Rules.{rules}
 use Rattle.cases.proofs.Laws.{end_here, end_next, end_none}
-use Rattle.cases.specs.Ends.{end_from}
 use Rattle.cases.proofs.case_end.Goals as goal
 
 pub loop-i-init : goal.loop-i-init
@@ -11,7 +8,7 @@ loop-i-init c = (search rules, search rules, refl)
 
 pub returns-then-ends_at : goal.returns-then-ends_at
 returns-then-ends_at c = let l = c.loop-i in
-    (sym (end_here _ _ c.loop-i-test.true (sym c.ends_at.ensures ∙ c.if-ends_at.true)) ∙ l.invariant.2, (search rules, search rules))
+    record { value = sym (end_here _ _ c.loop-i-test.true (sym c.ends_at.ensures ∙ c.if-ends_at.true)) ∙ l.invariant.2; lower_bound = search rules; upper_bound = search rules }
 
 pub loop-i-preserved : goal.loop-i-preserved
 loop-i-preserved c = let l = c.loop-i in
@@ -19,4 +16,4 @@ loop-i-preserved c = let l = c.loop-i in
 
 pub returns : goal.returns
 returns c = let l = c.loop-i in
-    (sym (end_none _ _ c.loop-i-test.false) ∙ l.invariant.2, (search rules, search rules))
+    record { value = sym (end_none _ _ c.loop-i-test.false) ∙ l.invariant.2; lower_bound = search rules; upper_bound = search rules }

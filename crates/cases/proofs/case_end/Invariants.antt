@@ -1,8 +1,6 @@
 use lib.ListN.{length}
 use Prim.Native.Nat.{◌-◌, ◌≤◌}
-use mathlib.Core.Path.{◌≡◌, refl, sym, ◌∙◌}
-use borrow.Author.Rules.{rules}
-use Rattle.cases.proofs.Laws.{end_here, end_next, end_none}
+use mathlib.Core.Path.{◌≡◌}
 use Rattle.cases.specs.Ends.{end_from}
 use Rattle.cases.proofs.case_end.Given as goal
 

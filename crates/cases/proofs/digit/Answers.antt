@@ -1,5 +1,4 @@
 use borrow.Author.Tests.{lt-ltb, le-ltb}
-use borrow.Author.Rules.{rules}
 use Rattle.cases.specs.Number.{digit_of}
 use Rattle.cases.proofs.digit.Goals as goal
 

@@ -1,6 +1,5 @@
 use mathlib.Core.Path.{sym}
 use borrow.Author.Tests.{lt-ltb, le-ltb, eq-eqb, ne_eqb}
-use borrow.Author.Rules.{rules}
 use Rattle.cases.proofs.Laws.{ends_third}
 use Rattle.cases.specs.Ends.{ends_at}
 use Rattle.cases.proofs.ends_at.Goals as goal

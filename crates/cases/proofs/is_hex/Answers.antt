@@ -1,6 +1,5 @@
 use mathlib.Core.Path.{sym}
 use borrow.Author.Tests.{lt-ltb, le-ltb, ne_eqb}
-use borrow.Author.Rules.{rules}
 use Rattle.cases.proofs.Laws.{hex_third}
 use Rattle.cases.specs.Number.{is_hex}
 use Rattle.cases.proofs.is_hex.Goals as goal

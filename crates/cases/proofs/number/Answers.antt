@@ -1,17 +1,13 @@
 use mathlib.Core.Path.{sym, ◌∙◌}
 use native.Mathlib.Omega.{arith}
-use borrow.Author.Rules.{rules}
 use Rattle.cases.proofs.Laws.{hex_long, number_hex, number_none, number_decimal}
 use Rattle.cases.proofs.number.Goals as goal
 
 pub slice_bounds-value-count : goal.slice_bounds-value-count
 slice_bounds-value-count c = omega (arith, hex_long _ (sym c.is_hex.ensures ∙ c.if-is_hex.true))
 
--- GONE part_value_start : tie.Need-slice-bounds-value-start
--- part_value_start c = omega (arith, hex_long _ (sym c.before.is-hex.ensures ∙ c.if1.true))
-
--- GONE part_value_end : tie.Need-slice-bounds-value-end
--- part_value_end c = search rules
+pub slice_bounds-value-start : goal.slice_bounds-value-start
+slice_bounds-value-start c = omega (arith, hex_long _ (sym c.is_hex.ensures ∙ c.if-is_hex.true))
 
 pub returns-then-is_hex : goal.returns-then-is_hex
 returns-then-is_hex c = let hex = sym c.is_hex.ensures ∙ c.if-is_hex.true in

@@ -1,10 +1,7 @@
-use lib.ListN.{length, drop}
-use Prim.Native.Nat.{◌-◌, ◌≤◌}
-use mathlib.Core.Path.{◌≡◌, refl, sym, ◌∙◌}
+use mathlib.Core.Path.{refl, sym, ◌∙◌}
 use native.Mathlib.Omega.{arith}
 use borrow.Author.Rules.{rules}
 use Rattle.cases.proofs.Laws.{same_next, same_differ, same_shorter, same_longer, same_end}
-use Rattle.cases.specs.Same.{same_bytes}
 use Rattle.cases.proofs.same.Goals as goal
 
 pub loop-i-init : goal.loop-i-init

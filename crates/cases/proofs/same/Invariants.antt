@@ -1,9 +1,6 @@
 use lib.ListN.{length, drop}
 use Prim.Native.Nat.{◌-◌, ◌≤◌}
-use mathlib.Core.Path.{◌≡◌, refl, sym, ◌∙◌}
-use native.Mathlib.Omega.{arith}
-use borrow.Author.Rules.{rules}
-use Rattle.cases.proofs.Laws.{same_next, same_differ, same_shorter, same_longer, same_end}
+use mathlib.Core.Path.{◌≡◌}
 use Rattle.cases.specs.Same.{same_bytes}
 use Rattle.cases.proofs.same.Given as goal
 

@@ -1,9 +1,6 @@
-use lib.ListN.{length, drop}
-use Prim.Native.Nat.{◌-◌, ◌^◌, ◌≤◌}
-use mathlib.Core.Path.{◌≡◌, refl, sym, ◌∙◌}
+use mathlib.Core.Path.{refl, sym, ◌∙◌}
 use borrow.Author.Rules.{rules}
 use Rattle.cases.proofs.Laws.{value_next, value_end}
-use Rattle.cases.specs.Number.{value_of}
 use Rattle.cases.proofs.value.Goals as goal
 
 pub loop-i-init : goal.loop-i-init
