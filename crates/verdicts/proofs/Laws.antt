@@ -1,7 +1,6 @@
 -- The tests on an answer and its lines, one after the other.
 use Rattle.std.proofs.Common.{◌≡◌, ℕ, suc, ◌+◌, ◌-◌, ◌<◌, ◌≤◌, Bool, true, false, cond, ◌&&◌, ◌||◌, eqb, leb, List, [], ◌∷◌, length, take, drop, sym, refl, ap, ◌∙◌, arith, length-drop, drop_of_length-le, length-take, take_all, drop-drop, ne_eqb, le-leb}
 use borrow.Author.Tests.{lt-leb}
-use lib.Seq.{take-length}
 use Rattle.cases.specs.Find.{index_of, index_after, part_of}
 use Rattle.cases.specs.Same.{same_bytes}
 use Rattle.cases.specs.Number.{number_of}
@@ -24,7 +23,7 @@ shorter (x ∷ xs) (y ∷ ys) h =
 
 -- a text without a line end has no line after one
 own_last : (t : List ℕ) → index_of 10 t ≡ length t → own_after t ≡ false
-unfolding own_after index_of index_after
+unfolding own_after index_of
 own_last [] e = refl
 own_last (b ∷ bs) e = by (eqb b 10) e (own_last bs)
   where
@@ -34,7 +33,7 @@ own_last (b ∷ bs) e = by (eqb b 10) e (own_last bs)
     by false e rest = rest (omega arith)
 
 own_next : (t : List ℕ) → index_of 10 t < length t → own_after t ≡ has_own (drop (suc (index_of 10 t)) t)
-unfolding own_after index_of index_after has_own
+unfolding own_after index_of has_own
 own_next [] h = let z : ◌≡◌ {A = ℕ} 0 1 = omega arith in cc
 own_next (b ∷ bs) h = by (eqb b 10) h (own_next bs)
   where
@@ -60,8 +59,7 @@ module _ (t : List ℕ) where
 -- the same from a place on, as the line end is found there
 module _ (text : List ℕ) (at end : ℕ) (e : end ≡ at + index_of 10 (part_of at (length text) text)) where
   place : end ≡ at + index_of 10 (drop at text)
-  unfolding slice
-  place = e ∙ ap (λ (t : List ℕ). at + index_of 10 (drop at t)) (take-length text)
+  place = e ∙ ap (λ (t : List ℕ). at + index_of 10 t) (take_all (length text - at) (drop at text) (rw length-drop (omega arith)))
 
   first : oracles_own (take (end - at) (drop at text)) ≡ oracles_own (line_of (drop at text))
   first = let n : end - at ≡ index_of 10 (drop at text) = omega (arith, place) in ap (λ (n : ℕ). oracles_own (take n (drop at text))) n

@@ -1,5 +1,5 @@
 -- A tally with one verdict more.
-use Rattle.std.proofs.Common.{◌≡◌, ℕ, refl, eq-eqb, ne_eqb}
+use Rattle.std.proofs.Common.{◌≡◌, ℕ, eq-eqb, ne_eqb}
 use Rattle.verdicts.specs.declared.Verdict.{Verdict}
 use Rattle.verdicts.specs.declared.Tally.{Tally}
 use Rattle.verdicts.specs.Tallied.{more, tallied}

@@ -1,6 +1,5 @@
-use Rattle.std.proofs.Common.{◌≡◌, ◌-◌, ◌≤◌, length, drop, sym, refl, ◌∙◌, rules}
+use Rattle.std.proofs.Common.{◌≡◌, ◌-◌, ◌≤◌, length, drop}
 use Rattle.verdicts.specs.Judged.{has_own}
-use Rattle.verdicts.proofs.Laws.{found_here, found_last, found_later, found_none}
 use Rattle.verdicts.proofs.has_oracles_own_line.Given as goal
 
 abbrev pub invariant-loop-at : goal.invariant-loop-at

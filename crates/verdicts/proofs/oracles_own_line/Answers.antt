@@ -1,12 +1,9 @@
-use Rattle.std.proofs.Common.{sym, ◌∙◌, arith, length-take, rules}
+use Rattle.std.proofs.Common.{sym, ◌∙◌}
 use Rattle.verdicts.proofs.Laws.{own_first, own_second, own_third, own_short}
 use Rattle.verdicts.proofs.oracles_own_line.Goals as goal
 
 pub returns-then-same : goal.returns-then-same
 returns-then-same c = sym (own_first _ (sym c.same.ensures ∙ c.if-same.true))
-
--- GONE slice_aggregate_same_2 : tie.Need-slice-aggregate-same-2
--- slice_aggregate_same_2 c = search rules
 
 pub returns-then-same-2 : goal.returns-then-same-2
 returns-then-same-2 c = sym (own_second _ (sym c.same.ensures ∙ c.if-same.false)
@@ -15,12 +12,6 @@ returns-then-same-2 c = sym (own_second _ (sym c.same.ensures ∙ c.if-same.fals
 pub returns-then-line-lt6 : goal.returns-then-line-lt6
 returns-then-line-lt6 c = sym (own_short _ (sym c.same.ensures ∙ c.if-same.false)
     (sym c.same-2.ensures ∙ c.if-same-2.false) c.if-line-lt6.true)
-
--- GONE slice_aggregate_same_3 : tie.Need-slice-aggregate-same-3
--- slice_aggregate_same_3 c = simp length-take (omega arith)
-
--- GONE slice_aggregate_same_4 : tie.Need-slice-aggregate-same-4
--- slice_aggregate_same_4 c = search rules
 
 pub returns : goal.returns
 returns c = c.same-3.ensures

@@ -1,4 +1,4 @@
-use Rattle.std.proofs.Common.{sym, ◌∙◌, rules}
+use Rattle.std.proofs.Common.{sym}
 use Rattle.verdicts.proofs.Laws.{refusing_below, refusing_here, refusing_above}
 use Rattle.verdicts.proofs.refuses.Goals as goal
 

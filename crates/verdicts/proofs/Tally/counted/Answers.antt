@@ -1,4 +1,3 @@
-use Rattle.std.proofs.Common.{rules}
 use Rattle.verdicts.proofs.Tallies.{one_same, one_excluded}
 use Rattle.verdicts.proofs.Tally.counted.Goals as goal
 

@@ -1,4 +1,3 @@
-use Rattle.std.proofs.Common.{rules}
 use Rattle.verdicts.proofs.Tallies.{first_different, another_different}
 use Rattle.verdicts.proofs.Tally.different.Goals as goal
 
