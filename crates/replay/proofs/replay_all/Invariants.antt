@@ -1,6 +1,5 @@
 use lib.ListN.{length}
 use Prim.Native.Nat.{◌-◌, ◌≤◌}
-use borrow.Author.Rules.{rules}
 use Rattle.replay.proofs.replay_all.Given as goal
 
 abbrev pub invariant-loop-tally : goal.invariant-loop-tally

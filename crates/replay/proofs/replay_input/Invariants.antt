@@ -1,7 +1,6 @@
 use mathlib.Core.Path.{◌≡◌}
 use lib.ListN.{length}
 use Prim.Native.Nat.{◌≤◌}
-use borrow.Author.Rules.{rules}
 use Rattle.replay.proofs.replay_input.Given as goal
 
 abbrev pub invariant-loop-turns : goal.invariant-loop-turns

@@ -3,15 +3,8 @@ use native.Mathlib.Omega.{arith}
 use borrow.Author.Rules.{rules}
 use Rattle.replay.proofs.replay_piece.Goals as goal
 
--- GONE part_read_full_start : tie.Need-slice-bounds-read-full-start
--- part_read_full_start c = search rules
-
--- GONE part_read_full_end : tie.Need-slice-bounds-read-full-end
--- part_read_full_end c = search rules
-
 pub slice_bounds-replay_all-end-2 : goal.slice_bounds-replay_all-end-2
 slice_bounds-replay_all-end-2 c = simp length-take (omega arith)
 
 pub shift-have-requires : goal.shift-have-requires
 shift-have-requires c = record { from_le_to = omega (arith, simp length-take at c.replay_all-done.ensures); to_in_bounds = search rules }
-

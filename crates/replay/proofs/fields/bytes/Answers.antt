@@ -1,14 +1,7 @@
-use Prim.Native.Nat.{◌+◌}
 use native.Mathlib.Omega.{arith}
 use borrow.Author.Rules.{rules}
 use Rattle.replay.proofs.Prefix.{counts}
 use Rattle.replay.proofs.fields.bytes.Goals as goal
-
-pub overflow_cast-len : goal.overflow_cast-len
-overflow_cast-len c = omega (arith, c.shared_slice_known-2-1.given c.args.i)
-
-pub overflow_cast-given : goal.overflow_cast-given
-overflow_cast-given c = omega (arith, c.shared_slice_known-3-1.given (c.args.i + 1))
 
 pub returns-then-len-out : goal.returns-then-len-out
 returns-then-len-out c = record { prefix_len = counts c.args.out.now c.no_part-then-len-out.result.len (omega arith); next_in_bounds = search rules }
@@ -19,15 +12,8 @@ returns-then-given-len c = record { prefix_len = counts c.args.out.now c.no_part
 pub returns-then-given-f : goal.returns-then-given-f
 returns-then-given-f c = record { prefix_len = counts c.args.out.now c.no_part-then-given-f.result.len (omega arith); next_in_bounds = search rules }
 
--- GONE part_fill_start : tie.Need-slice-bounds-fill-start
--- part_fill_start c = search rules
-
--- GONE part_fill_end : tie.Need-slice-bounds-fill-end
--- part_fill_end c = search rules
-
 pub returns-then-not-fill : goal.returns-then-not-fill
 returns-then-not-fill c = record { prefix_len = counts c.fill.new.out c.no_part-then-not-fill.result.len (omega arith); next_in_bounds = search rules }
 
 pub returns : goal.returns
 returns c = record { prefix_len = counts c.fill.new.out _ (omega (arith, c.fill.auto, c.if-len-out.false)); next_in_bounds = search rules }
-

@@ -1,11 +1,6 @@
 use borrow.Author.Tests.{lt-ltb, le-ltb}
-use native.Mathlib.Omega.{arith}
-use borrow.Author.Rules.{rules}
 use Rattle.replay.specs.Fields.{ends_with_list}
 use Rattle.replay.proofs.fields.ends_with_list.Goals as goal
-
-pub overflow_cast-result : goal.overflow_cast-result
-overflow_cast-result c = omega (arith, c.shared_slice_known-1.given c.args.i)
 
 pub returns-then-i-f : goal.returns-then-i-f
 unfolding ends_with_list

@@ -1,6 +1,4 @@
-use lib.ListN.{length-set, length}
-use mathlib.Core.Path.{◌≡◌}
-use Prim.Native.Nat.{◌-◌, ◌≤◌}
+use lib.ListN.{length-set}
 use borrow.Author.Rules.{rules}
 use Rattle.replay.proofs.fields.fill.Goals as goal
 

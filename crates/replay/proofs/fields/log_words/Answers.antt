@@ -1,5 +1,4 @@
 use native.Mathlib.Omega.{arith}
-use borrow.Author.Rules.{rules}
 use Rattle.replay.proofs.Prefix.{counts}
 use Rattle.replay.proofs.fields.log_words.Goals as goal
 

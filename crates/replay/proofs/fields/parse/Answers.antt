@@ -1,16 +1,9 @@
-use mathlib.Core.Path.{refl, ◌≡◌}
-use lib.ListN.{length-set, length}
-use Prim.Native.Nat.{◌-◌, ◌≤◌}
+use mathlib.Core.Path.{refl}
+use lib.ListN.{length-set}
 use native.Mathlib.Omega.{arith}
 use borrow.Author.Rules.{rules}
 use Rattle.replay.proofs.Prefix.{counts}
 use Rattle.replay.proofs.fields.parse.Goals as goal
-
--- GONE part_number_start : tie.Need-slice-bounds-number-start invariant-loop decreases-loop
--- part_number_start c = search rules
-
--- GONE part_number_end : tie.Need-slice-bounds-number-end invariant-loop decreases-loop
--- part_number_end c = search rules
 
 pub returns-then-n-out : goal.returns-then-n-out
 returns-then-n-out c = (search rules, refl)

@@ -1,9 +1,6 @@
-use mathlib.Core.Path.{refl, ◌≡◌}
-use lib.ListN.{length-set, length}
+use mathlib.Core.Path.{◌≡◌}
+use lib.ListN.{length}
 use Prim.Native.Nat.{◌-◌, ◌≤◌}
-use native.Mathlib.Omega.{arith}
-use borrow.Author.Rules.{rules}
-use Rattle.replay.proofs.Prefix.{counts}
 use Rattle.replay.proofs.fields.parse.Given as goal
 
 abbrev pub invariant-loop-at : goal.invariant-loop-at

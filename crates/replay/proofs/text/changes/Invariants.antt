@@ -1,7 +1,6 @@
 use mathlib.Core.Path.{◌≡◌}
 use lib.ListN.{length}
 use Prim.Native.Nat.{◌-◌}
-use borrow.Author.Rules.{rules}
 use Rattle.io.specs.Counts.{IsPrefixLen}
 use Rattle.replay.proofs.text.changes.Given as goal
 
