@@ -8,8 +8,7 @@ ghost use Rattle.std.specs.Prelude.{length};
 use counts::tell;
 
 // Writes all the bytes on a single line.
-#[unsafe(no_mangle)]
-pub extern "C" fn qspi_write(
+pub fn qspi_write(
     limit: u32,
     log: &mut [u32],
     answers: &[u32],
@@ -26,8 +25,7 @@ pub extern "C" fn qspi_write(
 }
 
 // Reads as many bytes as there is room for.
-#[unsafe(no_mangle)]
-pub extern "C" fn qspi_read(
+pub fn qspi_read(
     limit: u32,
     log: &mut [u32],
     answers: &[u32],
@@ -44,8 +42,7 @@ pub extern "C" fn qspi_read(
 }
 
 // Writes all of `write`, then reads all of `read`.
-#[unsafe(no_mangle)]
-pub extern "C" fn qspi_transfer(
+pub fn qspi_transfer(
     limit: u32,
     log: &mut [u32],
     answers: &[u32],
@@ -63,8 +60,7 @@ pub extern "C" fn qspi_transfer(
 }
 
 // Waits for the transfer to complete.
-#[unsafe(no_mangle)]
-pub extern "C" fn qspi_flush(
+pub fn qspi_flush(
     limit: u32,
     log: &mut [u32],
     answers: &[u32],
@@ -80,8 +76,7 @@ pub extern "C" fn qspi_flush(
 }
 
 // Writes and reads back the bytes, by parts.
-#[unsafe(no_mangle)]
-pub extern "C" fn qspi_transfer_in_place(
+pub fn qspi_transfer_in_place(
     limit: u32,
     log: &mut [u32],
     answers: &[u32],
@@ -98,8 +93,7 @@ pub extern "C" fn qspi_transfer_in_place(
 }
 
 // Reads `data` on four lines, after `command` and its dummy bytes on one. `hz`: the rate of the bus.
-#[unsafe(no_mangle)]
-pub extern "C" fn qspi_read_quad(
+pub fn qspi_read_quad(
     limit: u32,
     log: &mut [u32],
     answers: &[u32],
@@ -120,8 +114,7 @@ pub extern "C" fn qspi_read_quad(
 }
 
 // Writes `data` on four lines, after `command` on one.
-#[unsafe(no_mangle)]
-pub extern "C" fn qspi_write_quad(
+pub fn qspi_write_quad(
     limit: u32,
     log: &mut [u32],
     answers: &[u32],
@@ -139,8 +132,7 @@ pub extern "C" fn qspi_write_quad(
 }
 
 // Changes the work mode, by its number. `qpi`: the chip has QPI.
-#[unsafe(no_mangle)]
-pub extern "C" fn qspi_set_work_mode(
+pub fn qspi_set_work_mode(
     limit: u32,
     log: &mut [u32],
     answers: &[u32],

@@ -1,4 +1,4 @@
-// The library to link: functions on numbers and slices, with C names. None asks anything of its caller.
+// The functions of the library to link, on numbers and slices; exports_c gives them their C names. None asks anything of its caller.
 #![tactic(auto)]
 
 ghost use Rattle.std.specs.Prelude.{◌≡◌};
@@ -11,8 +11,7 @@ pub mod sheets;
 pub mod transaction;
 
 // The Rust's limit: the unready poll of this number in one wait gives 1.
-#[unsafe(no_mangle)]
-pub extern "C" fn qspi_default_limit() -> u32
+pub fn qspi_default_limit() -> u32
     ensures { result ≡ default_limit }
 {
     config_numbers::default_limit()

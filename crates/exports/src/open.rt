@@ -8,8 +8,7 @@ ghost use Rattle.std.specs.Prelude.{ℕ};
 use counts::tell;
 
 // Opens the bus of an instance and writes its rate, which is 0 unless the number is 0. `qpi`: the chip has QPI; `work_mode`: its number.
-#[unsafe(no_mangle)]
-pub extern "C" fn qspi_open(
+pub fn qspi_open(
     limit: u32,
     log: &mut [u32],
     answers: &[u32],
@@ -55,8 +54,7 @@ pub extern "C" fn qspi_open(
 }
 
 // Disables the clock of an instance and resets its module. It has no wait: its contract holds at every limit.
-#[unsafe(no_mangle)]
-pub extern "C" fn qspi_free(
+pub fn qspi_free(
     log: &mut [u32],
     answers: &[u32],
     instance: u32,

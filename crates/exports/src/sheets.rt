@@ -5,8 +5,7 @@ ghost use Rattle.exports.specs.Calls.{GivesOn};
 use counts::tell;
 
 // Runs the sheet that the bytes are, on the memory at their end; any other bytes are refused as 13.
-#[unsafe(no_mangle)]
-pub extern "C" fn qspi_sheet(
+pub fn qspi_sheet(
     bytes: &mut [u8],
     log: &mut [u32],
     entries: &mut usize,

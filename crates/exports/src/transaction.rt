@@ -5,8 +5,7 @@ ghost use Rattle.exports.specs.Calls.{GivesOn};
 use counts::tell;
 
 // Operations on the lent memory: records of eight words, kinds 1 to 5, checked along the chain before any access.
-#[unsafe(no_mangle)]
-pub extern "C" fn qspi_transaction(
+pub fn qspi_transaction(
     limit: u32,
     log: &mut [u32],
     answers: &[u32],

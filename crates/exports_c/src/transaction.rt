@@ -1,0 +1,23 @@
+// Transactions.
+ghost use Rattle.chain.specs.Transaction.{outcome, transaction};
+ghost use Rattle.exports.specs.Calls.{GivesOn};
+
+// Operations on the lent memory: records of eight words, kinds 1 to 5, checked along the chain before any access.
+#[unsafe(no_mangle)]
+pub extern "C" fn qspi_transaction(
+    limit: u32,
+    log: &mut [u32],
+    answers: &[u32],
+    memory: &mut [u8],
+    words: &[u32],
+    entries: &mut usize,
+    taken: &mut usize,
+    polls: &mut usize,
+    longest: &mut u32,
+) -> u32
+    ensures { GivesOn (outcome (transaction words.now) limit answers.now log.old memory.old) log.new memory.new result entries.new taken.new polls.new longest.new }
+{
+    exports::transaction::qspi_transaction(
+        limit, log, answers, memory, words, entries, taken, polls, longest,
+    )
+}
