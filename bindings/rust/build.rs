@@ -18,7 +18,7 @@ fn main() {
     println!("cargo::rerun-if-changed={}", archive.display());
     assert!(
         archive.is_file(),
-        "{} is missing: run `rt staticlib exports` in the root of the repository",
+        "{} is missing: run `bindings/build` in the root of the repository",
         archive.display()
     );
     println!("cargo::rustc-link-search=native={}", folder.display());
