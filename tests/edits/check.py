@@ -1,14 +1,17 @@
 #!/usr/bin/env python3
 """Checks each crate anew with each of its must-fail edits, and reads what the check says.
 
-    tests/edits/check.py [CRATE | CRATE/EDIT]..      all crates, or these crates or edits alone
+    tests/edits/check.py [--anew] [CRATE | CRATE/EDIT]..      all edits, or those of these crates, or these alone
 
 An edit may make several functions of a crate wrong, each of them marked `refused: FUNCTION`. The check must say of each that its
 own proof fails, and not only that it calls one whose proof does. And no edit may be refused because a place in the code or a name is
 missing, which a proof of any answer would be: a fact must fail.
 
-The crates are copied to a folder for temporary files, checked there as they stand, and then with one edit at a time, by `rt check`.
+The crates are copied to a folder for temporary files and checked there by `rt check`: as they stand, and then with one edit at a time.
+An edit that passed is kept for later runs on this machine, by the checksum of all that its check read; --anew tries it again.
 """
+import functools
+import hashlib
 import os
 import queue
 import re
@@ -20,6 +23,7 @@ import threading
 import time
 
 ROOT = os.path.normpath(f"{os.path.dirname(os.path.realpath(__file__))}/../..")
+KEPT = f"{os.environ.get('XDG_CACHE_HOME') or os.path.expanduser('~/.cache')}/must-fail-edits"
 # What a check of a crate takes at most, in bytes.
 MEMORY = 3_000_000_000
 # What the check says of a function whose own proof fails: its answers are refused, or no answer is found.
@@ -41,16 +45,48 @@ def write(path, text):
         it.write(text)
 
 
-def edits_of(crate):
-    """The crate's edits by name, in their order."""
-    folder = f"{ROOT}/crates/{crate}/must-fail"
-    names = sorted(os.listdir(folder)) if os.path.isdir(folder) else []
-    return [it[: -len(".edit")] for it in names if it.endswith(".edit")]
+class Crates:
+    """A copy of the repository's crates."""
+
+    def __init__(self, top):
+        self.top = top
+        self.rows = {}
+        for row in read(f"{top}/crates.txt").split("\n"):
+            head, _, libraries = row.partition("#")[0].partition(":")
+            if head.strip():
+                self.rows[head.split()[0]] = (head.split(), libraries.split())
+
+    def folder(self, crate):
+        return f"{self.top}/crates/{crate}"
+
+    def edits(self, crate):
+        """The crate's edits by name, with their texts."""
+        folder = f"{self.folder(crate)}/must-fail"
+        names = sorted(os.listdir(folder)) if os.path.isdir(folder) else []
+        return {it[: -len(".edit")]: read(f"{folder}/{it}") for it in names if it.endswith(".edit")}
+
+    def size(self, crate):
+        walked = os.walk(f"{self.folder(crate)}/src")
+        return sum(os.path.getsize(f"{at}/{name}") for at, _, names in walked for name in names)
+
+    @functools.lru_cache(maxsize=None)
+    def sum(self, crate):
+        """A checksum of all that a check of the crate reads, but the kit."""
+        sum = hashlib.sha256(repr(self.rows[crate]).encode())
+        for part in ("src", "specs", "proofs"):
+            for at, folders, names in os.walk(f"{self.folder(crate)}/{part}"):
+                folders.sort()
+                for name in sorted(names):
+                    path = f"{at}/{name}"
+                    sum.update(repr((os.path.relpath(path, self.top), read(path))).encode())
+        below = [self.sum(it) for it in self.rows[crate][1] if it in self.rows]
+        sum.update(repr(below).encode())
+        return sum.hexdigest()
 
 
 def edited(text, folder):
-    """The texts that the edit makes of the crate's files, by path, and the functions that it marks."""
-    path, old, texts, marked = None, None, {}, []
+    """The texts that the edit makes of the crate's files, by path."""
+    path, old, texts = None, None, {}
     for line in text.split("\n"):
         word, _, rest = line.partition(": ")
         if word == "file":
@@ -62,30 +98,22 @@ def edited(text, folder):
             if texts[path].count(old) != 1:
                 raise ValueError(f"'{old}' stands in {path} {texts[path].count(old)} times")
             texts[path] = texts[path].replace(old, line[len("new:") :][1:])
-        elif word == "refused":
-            marked.append(rest.strip())
-    return texts, marked
+    return texts
 
 
-class Counts:
-    """What passed and what failed, of all lanes."""
-
-    def __init__(self):
-        self.alone, self.passed, self.failed = threading.Lock(), 0, 0
-
-    def tell(self, label, passed, errors, more=""):
-        with self.alone:
-            self.passed += passed
-            self.failed += len(errors)
-            for it in errors:
-                print(f"error: {label}: {it}")
-            print(f"{label}: {'as it must be' if not errors else 'FAILED'}{more}", flush=True)
+def marked(text):
+    """The functions that the edit makes wrong."""
+    return [line[len("refused: ") :].strip() for line in text.split("\n") if line.startswith("refused: ")]
 
 
 def check(folder):
     """Proves the crate that stands in the folder, over what its last check kept. Gives the exit status and what was said."""
-    words = ["rt", "check", "--jobs", "1"]
-    ran = subprocess.run(words, cwd=folder, stdin=subprocess.DEVNULL, stdout=subprocess.PIPE, stderr=subprocess.STDOUT)
+    how = {"cwd": folder, "stdin": subprocess.DEVNULL, "stdout": subprocess.PIPE, "stderr": subprocess.STDOUT}
+    for _ in range(2):
+        ran = subprocess.run(["rt", "check", "--jobs", "1"], **how)
+        if ran.returncode in (0, 1, 3):
+            break
+        # (killed, most likely for memory: once more)
     return ran.returncode, ran.stdout.decode("utf-8", "replace")
 
 
@@ -106,8 +134,8 @@ def itself(function, said):
 
 
 def tried(folder, text):
-    """What fails of an edit of the crate in the folder, and how many functions it marks."""
-    texts, marked = edited(text, folder)
+    """What fails of an edit of the crate in the folder."""
+    texts = edited(text, folder)
     were = {path: read(f"{folder}/{path}") for path in texts}
     try:
         for path, new in texts.items():
@@ -116,32 +144,55 @@ def tried(folder, text):
     finally:
         for path, old in were.items():
             write(f"{folder}/{path}", old)
-    whys = [by_a_fact(status, said), *(itself(it, said) for it in marked)]
-    return [it for it in whys if it], len(marked)
+    whys = [by_a_fact(status, said), *(itself(it, said) for it in marked(text))]
+    return [it for it in whys if it]
 
 
-def lane(scratch, crates, wanted, counts):
-    """Takes crates until none is left. Each lane has its own copy of all crates: an edit in one would be an edit below another."""
+class Counts:
+    """What passed and what failed, of all lanes."""
+
+    def __init__(self):
+        self.alone, self.passed, self.failed = threading.Lock(), 0, 0
+
+    def tell(self, label, tests, errors, how):
+        """An edit is one test, and one more for each function that it marks."""
+        with self.alone:
+            self.passed += max(tests - len(errors), 0)
+            self.failed += len(errors)
+            for it in errors:
+                print(f"error: {label}: {it}")
+            functions = f", {tests - 1} functions" if tests > 1 else ""
+            print(f"{label}: {'FAILED' if errors else 'as it must be'}{functions} ({how})", flush=True)
+
+
+def lane(copy, waiting, counts):
+    """Takes crates until none is left. Each lane has its own copy of all crates, since an edit in one would be an edit below another."""
     while True:
         try:
-            crate = crates.get_nowait()
+            crate, edits = waiting.get_nowait()
         except queue.Empty:
             return
-        folder = f"{scratch}/crates/{crate}"
         began = time.time()
-        status, said = check(folder)
-        if status:
-            counts.tell(crate, 0, [f"it is not proved as it stands, so no edit was tried:\n{said[-2000:]}"] * len(wanted[crate]))
-            continue
-        print(f"{crate}: proved as it stands ({time.time() - began:.0f} s)", flush=True)
-        for edit in wanted[crate]:
+        status, said = check(copy.folder(crate))
+        proved = f"{time.time() - began:.0f} s"
+        print(f"error: {crate} is not proved:\n{said[-2000:]}" if status else f"{crate}: proved as it stands ({proved})", flush=True)
+        for edit, (text, kept) in edits.items():
             began = time.time()
             try:
-                errors, marked = tried(folder, read(f"{ROOT}/crates/{crate}/must-fail/{edit}.edit"))
+                errors = [f"{crate} is not proved as it stands"] if status else tried(copy.folder(crate), text)
             except (OSError, ValueError, KeyError) as error:
-                errors, marked = [f"it cannot be applied: {error}"], 0
-            functions = f", {marked} functions" if marked else ""
-            counts.tell(f"{crate}/{edit}", max(1 + marked - len(errors), 0), errors, f"{functions} ({time.time() - began:.0f} s)")
+                errors = [f"it cannot be applied: {error}"]
+            counts.tell(f"{crate}/{edit}", 1 + len(marked(text)), errors, f"{time.time() - began:.0f} s")
+            if not errors:
+                keep(kept)
+
+
+def keep(path):
+    try:
+        os.makedirs(KEPT, exist_ok=True)
+        write(path, "")
+    except OSError:
+        pass
 
 
 def lanes():
@@ -151,32 +202,41 @@ def lanes():
     return max(1, min(len(os.sched_getaffinity(0)), room))
 
 
+def copied(source, to):
+    """Copies the crates, and not what rt made of them."""
+    out = lambda at, names: {"out"} & {*names} if os.path.dirname(at) == f"{source}/crates" else ()
+    shutil.copytree(f"{source}/crates", f"{to}/crates", ignore=out)
+    for name in ("crates.txt", "HANDLES"):
+        if os.path.isfile(f"{source}/{name}"):
+            shutil.copy(f"{source}/{name}", to)
+    return Crates(to)
+
+
 def main(words):
-    every = [it for it in sorted(os.listdir(f"{ROOT}/crates")) if edits_of(it)]
-    wanted = {it: edits_of(it) for it in every}
-    for word in words:
-        crate, _, edit = word.partition("/")
-        if crate not in wanted or edit and edit not in wanted[crate]:
-            print(f"error: there is no {word} with an edit\n0 passed, 1 failed")
-            return 1
-    if words:
-        named = {it: [edit for edit in edits if {it, f"{it}/{edit}"} & {*words}] for it, edits in wanted.items()}
-        wanted = {it: edits for it, edits in named.items() if edits}
-    size = lambda it: sum(os.path.getsize(f"{at}/{name}") for at, _, names in os.walk(f"{ROOT}/crates/{it}/src") for name in names)
-    crates = queue.Queue()
-    for it in sorted(wanted, key=lambda it: -size(it) * len(wanted[it])):
-        crates.put(it)
-    counts = Counts()
+    anew, words = "--anew" in words, {it for it in words if it != "--anew"}
+    version = subprocess.run(["rt", "version"], stdout=subprocess.PIPE, check=True).stdout
+    counts, waiting, new, of = Counts(), queue.Queue(), [], 0
     with tempfile.TemporaryDirectory(prefix="edits-") as room:
-        running = []
-        for number in range(min(lanes(), len(wanted))):
-            scratch = f"{room}/{number}"
-            leave = lambda at, names: [it for it in names if it in ("out", "must-fail")]
-            shutil.copytree(f"{ROOT}/crates", f"{scratch}/crates", ignore=leave)
-            for name in ("crates.txt", "HANDLES"):
-                if os.path.isfile(f"{ROOT}/{name}"):
-                    shutil.copy(f"{ROOT}/{name}", scratch)
-            running.append(threading.Thread(target=lane, args=(scratch, crates, wanted, counts)))
+        first = copied(ROOT, f"{room}/0")
+        for crate in first.rows:
+            edits = {}
+            for edit, text in first.edits(crate).items():
+                if words and not words & {crate, f"{crate}/{edit}"}:
+                    continue
+                read_by = (version, read(os.path.realpath(__file__)), first.sum(crate), edit, text)
+                kept = f"{KEPT}/{hashlib.sha256(repr(read_by).encode()).hexdigest()}"
+                of += 1
+                if os.path.isfile(kept) and not anew:
+                    counts.tell(f"{crate}/{edit}", 1 + len(marked(text)), [], "kept")
+                else:
+                    edits[edit] = text, kept
+            if edits:
+                new.append((crate, edits))
+        print(f"{of} edits, of which {of - sum(len(it) for _, it in new)} are kept", flush=True)
+        for it in sorted(new, key=lambda it: -first.size(it[0]) * len(it[1])):
+            waiting.put(it)
+        copies = [first if it == 0 else copied(first.top, f"{room}/{it}") for it in range(min(lanes(), len(new)))]
+        running = [threading.Thread(target=lane, args=(it, waiting, counts)) for it in copies]
         for it in running:
             it.start()
         for it in running:
