@@ -59,12 +59,6 @@ class Crates:
     def folder(self, crate):
         return f"{self.top}/crates/{crate}"
 
-    def edits(self, crate):
-        """The crate's edits by name, with their texts."""
-        folder = f"{self.folder(crate)}/must-fail"
-        names = sorted(os.listdir(folder)) if os.path.isdir(folder) else []
-        return {it[: -len(".edit")]: read(f"{folder}/{it}") for it in names if it.endswith(".edit")}
-
     def size(self, crate):
         walked = os.walk(f"{self.folder(crate)}/src")
         return sum(os.path.getsize(f"{at}/{name}") for at, _, names in walked for name in names)
@@ -82,6 +76,13 @@ class Crates:
         below = [self.sum(it) for it in self.rows[crate][1] if it in self.rows]
         sum.update(repr(below).encode())
         return sum.hexdigest()
+
+
+def edits_of(crate):
+    """The crate's edits by name, with their texts."""
+    folder = f"{ROOT}/crates/{crate}/must-fail"
+    names = sorted(os.listdir(folder)) if os.path.isdir(folder) else []
+    return {it[: -len(".edit")]: read(f"{folder}/{it}") for it in names if it.endswith(".edit")}
 
 
 def edited(text, folder):
@@ -119,8 +120,10 @@ def check(folder):
 
 def by_a_fact(status, said):
     """Why what the check said of an edit is no fact that fails, in each proof; or None."""
+    if status == 0:
+        return "the crate is still proved"
     if status != 1 or not re.search(r"^logic=not-proved", said, re.M):
-        return f"the check ended with status {status} and said:\n{said[-2000:]}"
+        return f"the check ended with status {status} and said:\n{said[:1000]}"
     missing = next((it for it in said.split("\n") if MISSING.search(it)), None)
     return missing and f"a place or a name is missing: {missing[:400]}"
 
@@ -203,9 +206,9 @@ def lanes():
 
 
 def copied(source, to):
-    """Copies the crates, and not what rt made of them."""
-    out = lambda at, names: {"out"} & {*names} if os.path.dirname(at) == f"{source}/crates" else ()
-    shutil.copytree(f"{source}/crates", f"{to}/crates", ignore=out)
+    """Copies the crates without their edits and what rt made of them."""
+    more = lambda at, names: {"out", "must-fail"} & {*names} if os.path.dirname(at) == f"{source}/crates" else ()
+    shutil.copytree(f"{source}/crates", f"{to}/crates", ignore=more)
     for name in ("crates.txt", "HANDLES"):
         if os.path.isfile(f"{source}/{name}"):
             shutil.copy(f"{source}/{name}", to)
@@ -220,7 +223,7 @@ def main(words):
         first = copied(ROOT, f"{room}/0")
         for crate in first.rows:
             edits = {}
-            for edit, text in first.edits(crate).items():
+            for edit, text in edits_of(crate).items():
                 if words and not words & {crate, f"{crate}/{edit}"}:
                     continue
                 read_by = (version, read(os.path.realpath(__file__)), first.sum(crate), edit, text)
