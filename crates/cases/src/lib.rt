@@ -1,4 +1,4 @@
-// The text of a list of cases: where a case ends, the numbers of its line, and whether two texts are the same.
+// The text of a list of cases: where a case ends, the numbers of its line, whether two texts are the same, and where a byte is.
 #![tactic(auto)]
 
 ghost use Rattle.std.specs.Prelude.{◌≡◌, ◌+◌, ◌≤◌, ◌^◌, length};

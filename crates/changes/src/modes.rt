@@ -41,7 +41,7 @@ pub fn set_lines(progress: Progress, log: &mut [u32], answers: &[u32], lines: Li
     access::entry::perform(read.progress, log, Act::Write(0x038, word))
 }
 
-// A word with three_wire_lem on or off.
+// A word with three-wire on or off.
 fn wired(word: u32, on: bool) -> u32
     ensures { result ≡ set_field 25 1 (cond on 1 0) word }
 {

@@ -43,7 +43,7 @@ module _ (mode : WorkMode) (bits : Bool) where
   abbrev pub first : Steps
   first = change_of (of.TheVariants.Transfer (lines mode (bus_mode_in bits)))
 
-  -- the steps of the code for a mode that is three_wire_lem in bytes or not
+  -- the steps of the code for a mode that is three-wire in bytes or not
   steps : Bool → Steps
   steps b = cond b (then first (change 0x008 (set_field 25 1 1))) first
 

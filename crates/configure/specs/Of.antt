@@ -40,7 +40,7 @@ lines Quad bus = transfer.TheVariants.Quad
 lines QuadIO bus = transfer.TheVariants.Quad
 lines Qpi bus = transfer.TheVariants.Qpi
 
--- three_wire_lem without bit mode
+-- three-wire without bit mode
 abbrev pub in_bytes : WorkMode → Bool → Bool
 in_bytes Standard bits = false
 in_bytes ThreeWire bits = not bits

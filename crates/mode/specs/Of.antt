@@ -1,4 +1,4 @@
--- The code's data lines of a mode, and whether it is three_wire_lem. The row of QPI is not asked for.
+-- The code's data lines of a mode, and whether it is three-wire. The row of QPI is not asked for.
 use Rattle.std.specs.Prelude.{Bool, true, false}
 use Rattle.changes.specs.declared.modes.Lines.{Lines}
 use Rattle.changes.specs.declared.modes.Lines as of

@@ -58,14 +58,14 @@ impl TransferConfig {
         ((self.0 >> 31) & 0x1) != 0
     }
 
-    // Enable three_wire_lem byte mode (THREE_WIRE_EN, bit 25).
+    // Enable three-wire byte mode (THREE_WIRE_EN, bit 25).
     pub fn enable_three_wire(self) -> Self
         ensures { result.0 ≡ set_field 25 1 1 self.0 }
     {
         Self((self.0 & !(0x1 << 25)) | ((0x1 & 0x1) << 25))
     }
 
-    // Disable three_wire_lem byte mode (THREE_WIRE_EN, bit 25).
+    // Disable three-wire byte mode (THREE_WIRE_EN, bit 25).
     pub fn disable_three_wire(self) -> Self
         ensures { result.0 ≡ set_field 25 1 0 self.0 }
     {

@@ -97,7 +97,7 @@ impl ClockDivSel {
 pub enum BusMode {
     // Bytes, for standard, dual and quad SPI.
     StandardBytes,
-    // Bits, for three_wire_lem mode.
+    // Bits, for three-wire mode.
     QuadBits,
     // Bits, for standard SPI.
     StandardBits,
