@@ -239,7 +239,7 @@ def main(words):
         for it in sorted(new, key=lambda it: -first.size(it[0]) * len(it[1])):
             waiting.put(it)
         copies = [first if it == 0 else copied(first.top, f"{room}/{it}") for it in range(min(lanes(), len(new)))]
-        running = [threading.Thread(target=lane, args=(it, waiting, counts)) for it in copies]
+        running = [threading.Thread(target=lane, args=(it, waiting, counts), daemon=True) for it in copies]
         for it in running:
             it.start()
         for it in running:
