@@ -218,7 +218,7 @@ def copied(source, to):
 def main(words):
     anew, words = "--anew" in words, {it for it in words if it != "--anew"}
     version = subprocess.run(["rt", "version"], stdout=subprocess.PIPE, check=True).stdout
-    counts, waiting, new, of = Counts(), queue.Queue(), [], 0
+    counts, waiting, new, of, tests = Counts(), queue.Queue(), [], 0, 0
     with tempfile.TemporaryDirectory(prefix="edits-") as room:
         first = copied(ROOT, f"{room}/0")
         for crate in first.rows:
@@ -229,6 +229,7 @@ def main(words):
                 read_by = (version, read(os.path.realpath(__file__)), first.sum(crate), edit, text)
                 kept = f"{KEPT}/{hashlib.sha256(repr(read_by).encode()).hexdigest()}"
                 of += 1
+                tests += 1 + len(marked(text))
                 if os.path.isfile(kept) and not anew:
                     counts.tell(f"{crate}/{edit}", 1 + len(marked(text)), [], "kept")
                 else:
@@ -244,6 +245,10 @@ def main(words):
             it.start()
         for it in running:
             it.join()
+    missed = tests - counts.passed - counts.failed
+    if missed:
+        print(f"error: of {tests} tests {missed} were not run: a lane ended before them")
+        counts.failed += missed
     print(f"{counts.passed} passed, {counts.failed} failed")
     return 0 if counts.passed and not counts.failed else 1
 

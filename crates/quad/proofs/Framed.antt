@@ -31,11 +31,11 @@ zeros command k d h =
     rw (append_assoc, replicate-append-replicate, e) refl
 
 -- `d` zeros behind `n` bytes of the command, which were copied into sixteen zeros
-pub frames : (command : List ℕ) (dummies : ℕ) {bytes : List ℕ} {n d : ℕ} → d ≡ min dummies 8 → n ≡ min (length command) (16 - d)
+pub frames_copied : (command : List ℕ) (dummies : ℕ) {bytes : List ℕ} {n d : ℕ} → d ≡ min dummies 8 → n ≡ min (length command) (16 - d)
     → bytes ≡ take n command ++ drop n (replicate 16 0)
     → Frames command dummies (record { bytes = bytes; length = n + d })
 unfolding framed
-frames command dummies {bytes} {n} {d} e f g =
+frames_copied command dummies {bytes} {n} {d} e f g =
     let counts : length (take n command) ≡ n = simp length-take (omega arith) in
     let left : 16 - n ≡ 16 - length (take n command) = omega (arith, counts) in
     let t : take n command ≡ take (16 - min dummies 8) command = rw (f, e) (take_min (16 - min dummies 8) command) in
@@ -45,6 +45,14 @@ frames command dummies {bytes} {n} {d} e f g =
           (zeros command (16 - min dummies 8) (min dummies 8) (omega arith));
       counted = simp (length-append, length-take, length-replicate) (omega arith);
     }
+
+-- the same where the count of the bytes that were copied is their length
+pub frames : (command : List ℕ) (dummies : ℕ) {bytes : List ℕ} {n d : ℕ} → d ≡ min dummies 8 → n ≡ min (length command) (16 - d)
+    → bytes ≡ take (length (take n command)) (take n command) ++ drop (length (take n command)) (replicate 16 0)
+    → Frames command dummies (record { bytes = bytes; length = n + d })
+frames command dummies {bytes} {n} {d} e f g =
+    let counts : length (take n command) ≡ n = simp length-take (omega arith) in
+    frames_copied command dummies e f (g ∙ rw (take-length (take n command), counts) refl)
 
 -- The frame's bytes, and that they are at most sixteen.
 module _ {command : List ℕ} {dummies : ℕ} {frame : QuadFrame} (f : Frames command dummies frame) where
