@@ -3,12 +3,13 @@
 
     tests/edits/check.py [--anew] [CRATE | CRATE/EDIT]..      all edits, or those of these crates, or these alone
 
-An edit may make several functions of a crate wrong, each of them marked `refused: FUNCTION`. The check must say of each that its
-own proof fails, and not only that it calls one whose proof does. And no edit may be refused because a place in the code or a name is
-missing, which a proof of any answer would be: a fact must fail.
+An edit may make several functions of a crate wrong, each of them marked `refused: FUNCTION`. The check must say of
+each that its own proof fails, and not only that it calls one whose proof does. And no edit may be refused because a
+place in the code or a name is missing, which a proof of any answer would be: a fact must fail.
 
-The crates are copied to a folder for temporary files and checked there by `rt check`: as they stand, and then with one edit at a time.
-An edit that passed is kept for later runs on this machine, by the checksum of all that its check read; --anew tries it again.
+The crates are copied to a folder for temporary files and checked there by `rt check`: as they stand, and then with one
+edit at a time. An edit that passed is kept for later runs on this machine, by the checksum of all that its check read;
+--anew tries it again.
 """
 import functools
 import hashlib
@@ -30,7 +31,8 @@ MEMORY = 3_000_000_000
 ITSELF = r"not proved|no proof: [^;]*; `search` did not prove [^;]*"
 # What the check says where a place or a name is missing, or where a text cannot be read.
 MISSING = re.compile(
-    r"error: .*(has no field|that can be named|is not in scope|has no `|is no name|operand is missing|expected the end|cannot continue)"
+    r"error: .*(has no field|that can be named|is not in scope|has no `|is no name|operand is missing"
+    r"|expected the end|cannot continue)"
     r"|error\[[\w-]+\]"
 )
 
@@ -108,7 +110,7 @@ def marked(text):
 
 
 def check(folder):
-    """Proves the crate that stands in the folder, over what its last check kept. Gives the exit status and what was said."""
+    """Proves the crate in the folder, over what its last check kept. Gives the exit status and what was said."""
     how = {"cwd": folder, "stdin": subprocess.DEVNULL, "stdout": subprocess.PIPE, "stderr": subprocess.STDOUT}
     for _ in range(2):
         ran = subprocess.run(["rt", "check", "--jobs", "1"], **how)
@@ -169,7 +171,7 @@ class Counts:
 
 
 def lane(copy, waiting, counts):
-    """Takes crates until none is left. Each lane has its own copy of all crates, since an edit in one would be an edit below another."""
+    """Takes crates until none is left. A lane has its own copy of all crates: an edit in one would be below another."""
     while True:
         try:
             crate, edits = waiting.get_nowait()
@@ -177,8 +179,10 @@ def lane(copy, waiting, counts):
             return
         began = time.time()
         status, said = check(copy.folder(crate))
-        proved = f"{time.time() - began:.0f} s"
-        print(f"error: {crate} is not proved:\n{said[-2000:]}" if status else f"{crate}: proved as it stands ({proved})", flush=True)
+        if status:
+            print(f"error: {crate} is not proved:\n{said[-2000:]}", flush=True)
+        else:
+            print(f"{crate}: proved as it stands ({time.time() - began:.0f} s)", flush=True)
         for edit, (text, kept) in edits.items():
             began = time.time()
             try:

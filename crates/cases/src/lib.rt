@@ -1,4 +1,5 @@
-// The text of a list of cases: where a case ends, the numbers of its line, whether two texts are the same, and where a byte is.
+// The text of a list of cases: where a case ends, the numbers of its line, whether two texts are the same, and where a
+// byte is.
 #![tactic(auto)]
 
 ghost use Rattle.std.specs.Prelude.{◌≡◌, ◌+◌, ◌≤◌, ◌^◌, length};

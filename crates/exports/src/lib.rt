@@ -1,4 +1,5 @@
-// The functions of the library to link, on numbers and slices; exports_c gives them their C names. None asks anything of its caller.
+// The functions of the library to link, on numbers and slices; exports_c gives them their C names. None asks anything
+// of its caller.
 #![tactic(auto)]
 
 ghost use Rattle.std.specs.Prelude.{◌≡◌};
