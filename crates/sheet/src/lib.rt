@@ -1,9 +1,8 @@
 // The bytes of a sheet: its header, the test for 13, and its words.
 #![tactic(auto)]
 
-ghost use Rattle.std.specs.Prelude.{◌≡◌, ◌+◌, ◌*◌, ◌≤◌, length, drop};
-ghost use Rattle.sheet.specs.Words.{word_at, words};
-ghost use Rattle.sheet.specs.Words.{word as Words·word};
+ghost use Rattle.std.specs.Prelude.{◌≡◌, ◌*◌, ◌≤◌, length};
+ghost use Rattle.sheet.specs.Words.{words};
 ghost use Rattle.sheet.specs.Open.{opened};
 
 // The header of a sheet; `memory` is the byte at which the lent memory starts.
@@ -11,74 +10,47 @@ ghost use Rattle.sheet.specs.Open.{opened};
 pub struct Header {
     pub limit: u32,
     pub rate: u32,
-    pub qpi: u32,
+    pub qpi: bool,
     pub records: usize,
     pub answers: usize,
     pub memory: usize,
 }
 
-// What bytes are: a sheet, or refused (13).
-#[derive(Clone, Copy)]
-pub enum Opened {
-    Accepted(Header),
-    Refused,
-}
-
-// The word that four bytes spell, the least significant first.
-fn word(a: u8, b: u8, c: u8, d: u8) -> u32
-    ensures { result ≡ Words·word a b c d }
-{
-    a as u32 + 256 * (b as u32 + 256 * (c as u32 + 256 * d as u32))
-}
-
-// The word at byte `at`.
-fn word_at(bytes: &[u8], at: usize) -> u32
-    requires { at + 4 ≤ length bytes.now }
-    ensures { result ≡ word_at bytes.now at }
-{
-    word(bytes[at], bytes[at + 1], bytes[at + 2], bytes[at + 3])
-}
-
-// The test for 13, and the header.
-pub fn open(bytes: &[u8]) -> Opened
+// The header, or none: the bytes are no sheet (13).
+pub fn open(bytes: &[u8]) -> Option<Header>
     ensures { result ≡ opened bytes.now }
 {
     if bytes.len() > 65536 {
-        return Opened::Refused;
+        return None;
     }
-    if bytes.len() < 20 {
-        return Opened::Refused;
-    }
-    let records = word_at(bytes, 12) as usize;
-    let answers = word_at(bytes, 16) as usize;
+    let (spelled, _) = bytes.as_chunks::<4>();
+    let [limit, rate, qpi, records, answers, ..] = spelled else {
+        return None;
+    };
+    let qpi = u32::from_le_bytes(*qpi);
+    let records = u32::from_le_bytes(*records) as usize;
+    let answers = u32::from_le_bytes(*answers) as usize;
     let memory = 20 + 32 * records + 4 * answers;
-    if bytes.len() < memory {
-        return Opened::Refused;
+    if bytes.len() < memory || qpi > 1 {
+        return None;
     }
-    let qpi = word_at(bytes, 8);
-    if qpi > 1 {
-        return Opened::Refused;
-    }
-    let limit = word_at(bytes, 0);
-    let rate = word_at(bytes, 4);
-    Opened::Accepted(Header {
-        limit,
-        rate,
-        qpi,
+    Some(Header {
+        limit: u32::from_le_bytes(*limit),
+        rate: u32::from_le_bytes(*rate),
+        qpi: qpi == 1,
         records,
         answers,
         memory,
     })
 }
 
-// Fills `out` with the words from byte `from` on.
-pub fn fill(bytes: &[u8], from: usize, out: &mut [u32])
-    requires { from + 4 * length out.old ≤ length bytes.now }
-    ensures { out.new ≡ words (length out.old) (drop from bytes.now) }
+// Fills `out` with the words that the bytes begin with.
+pub fn fill(bytes: &[u8], out: &mut [u32])
+    requires { 4 * length out.old ≤ length bytes.now }
+    ensures { out.new ≡ words (length out.old) bytes.now }
 {
-    let mut i = 0;
-    while i < out.len() {
-        out[i] = word_at(bytes, from + 4 * i);
-        i += 1;
+    let (spelled, _) = bytes.as_chunks::<4>();
+    for (i, word) in out.iter_mut().enumerate() {
+        *word = u32::from_le_bytes(spelled[i]);
     }
 }
