@@ -1,11 +1,11 @@
-// Reads a sheet from standard input and prints its lines. One byte more than a sheet may have is read, to see that there are too many.
+// Reads a sheet from standard input and prints its lines. One byte more than a sheet may have is read, to see that there
+// are too many.
 #![tactic(auto)]
 
 fn main() {
     let mut bytes = [0u8; 65537];
+    // std's Read has no form that fills a buffer and says how far it came: with it, this would be a loop of our own.
     let n = io::read_full(0, &mut bytes);
     let printed = sheet_run::print::print(&mut bytes[..n]);
-    let text = printed.text;
-    let length = printed.length;
-    io::write_all(1, &text[..length]);
+    io::write_all(1, printed.as_bytes());
 }

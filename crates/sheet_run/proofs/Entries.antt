@@ -1,9 +1,10 @@
 -- A run's entries fit its log.
-use mathlib.Core.Path.{◌≡◌, ap, ◌∙◌}
+use mathlib.Core.Path.{◌≡◌, sym, ap, ap₂, ◌∙◌}
 use mathlib.Core.List.{List, ◌++◌}
 use Prim.Native.Nat.{ℕ, ◌+◌, ◌*◌, ◌≤◌}
 use native.Mathlib.Omega.{arith}
-use lib.ListN.{length, drop, replicate, length-append, length-replicate}
+use lib.ListN.{length, take, drop, replicate, length-append, length-replicate}
+use lib.Seq.{take-append_seam}
 use Rattle.model.specs.Steps.{Steps}
 use Rattle.model.specs.State.{begun, called}
 use Rattle.model.proofs.Called.{called_holds}
@@ -12,7 +13,7 @@ use Rattle.chain.specs.Transaction.{outcome}
 use Rattle.sheet.specs.Sheet.{Parsed, refused, sheet, parse}
 use Rattle.access.specs.declared.progress.Progress.{Progress}
 use Rattle.lines.specs.Text.{printed, Wrote}
-use Rattle.sheet_run.specs.declared.print.Printed.{Printed}
+use Rattle.sheet_run.specs.Text.{filled, Behind}
 use Rattle.sheet_run.specs.Run.{sheet_outcome, sheet_state, RunsSheet}
 use Rattle.sheet_run.specs.Print.{progress_in, end_state, printed_sheet, Prints}
 
@@ -37,19 +38,13 @@ module _ (bs : List ℕ) {p : Progress} {log' bs' : List ℕ} (d : RunsSheet bs 
       let e : p.entries ≡ (sheet_state bs (replicate 8192 0)).entries = ap (λ st. st.entries) d.state in
       omega (arith, e, entries_fit bs (replicate 8192 0), length-replicate {A = ℕ} 8192 0)
 
-  pub prints : {text : List ℕ} {n : ℕ} → Wrote (replicate 65664 0) 0 text n (printed log' p) → Prints bs (record { text = text; length = n }) bs'
+  pub prints : {text : List ℕ} {n : ℕ} → Wrote (replicate 65664 0) 0 text n (printed log' p) → Behind text n × Prints bs (take n text) bs'
   unfolding printed_sheet end_state
-  prints {text} w =
+  prints {text} {n} w =
       let x = printed log' p in
       let e : x ≡ printed_sheet bs = ap (λ st. printed st.log (progress_in st)) d.state in
       let z : 0 + length x ≡ length x = omega arith in
-      let t : text ≡ x ++ drop (length x) (replicate 65664 0) = w.text ∙ ap (λ k. x ++ drop k (replicate 65664 0)) z in
-      record {
-        text = t ∙ ap (λ y. y ++ drop (length y) (replicate 65664 0)) e;
-        count = w.place ∙ z ∙ ap length e;
-        bytes = ap (λ st. st.memory) d.state;
-      }
-
--- the text lies in its buffer
-pub prints_within : {bs bs' : List ℕ} {r : Printed} → Prints bs r bs' → r.length ≤ length r.text
-prints_within {bs} {r = r} d = rw (d.count, d.text) (simp length-append (omega arith))
+      let l : n ≡ length x = w.place ∙ z in
+      let t : text ≡ filled x = w.text ∙ ap (λ k. x ++ drop k (replicate 65664 0)) z in
+      let front : take n text ≡ x = ap₂ take l t ∙ take-append_seam x _ in
+      (record { within = rw (l, t) (simp length-append (omega arith)); zeros = t ∙ ap filled (sym front) }, record { text = front ∙ e; bytes = ap (λ st. st.memory) d.state })

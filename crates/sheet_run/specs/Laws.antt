@@ -1,12 +1,11 @@
 -- Demand 3 for sheets as byte strings, and what a sheet never gives.
-use Rattle.std.specs.Prelude.{◌≡◌, List, [], ◌∷◌, ◌++◌, ℕ, ◌+◌, ◌*◌, ◌^◌, ◌≤◌, ◌<◌, length}
+use Rattle.std.specs.Prelude.{◌≡◌, None, List, [], ◌∷◌, ◌++◌, ℕ, ◌+◌, ◌*◌, ◌^◌, ◌≤◌, ◌<◌, length}
 use Rattle.model.specs.State.{begun, with_number}
 use Rattle.model.specs.Limit.{Ended, AgainCall}
 use Rattle.sheet.specs.Words.{spell, Below}
 use Rattle.records.specs.Check.{checked}
 use Rattle.chain.specs.Transaction.{refusal}
 use Rattle.chain.specs.Laws.{quad_words, quad_answers}
-use Rattle.sheet.specs.declared.Opened.{Opened}
 use Rattle.sheet.specs.Open.{number_of}
 use Rattle.sheet.specs.Sheet.{Parsed, refused, sheet, parse, continued_bytes}
 use Rattle.sheet_run.specs.Run.{sheet_outcome, sheet_state}
@@ -34,7 +33,7 @@ LinesAgain =
 
 -- what a sheet is refused by, or 0: 13, which precedes the rest, then 7, then the first fault along its chain
 unfoldable pub sheet_refusal : Parsed → ℕ
-sheet_refusal refused = number_of Opened.Refused
+sheet_refusal refused = number_of None
 sheet_refusal (sheet s) = refusal s.limit (checked 9 (length s.memory) s.records)
 
 -- A refusal touches neither log nor bytes, and all counts are 0.

@@ -1,3 +1,4 @@
+pub mod Text
 pub mod Run
 pub mod Print
 pub mod Laws

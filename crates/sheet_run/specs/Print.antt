@@ -1,9 +1,8 @@
 -- What a sheet prints: the lines of its run with a log of 4,096 entries.
-use Rattle.std.specs.Prelude.{◌≡◌, List, ◌++◌, ℕ, length, drop, replicate}
+use Rattle.std.specs.Prelude.{◌≡◌, List, ℕ, replicate}
 use Rattle.model.specs.State.{State}
 use Rattle.access.specs.declared.progress.Progress.{Progress}
 use Rattle.lines.specs.Text.{printed}
-use Rattle.sheet_run.specs.declared.print.Printed.{Printed}
 use Rattle.sheet_run.specs.Run.{sheet_state}
 
 -- the number and the counts of a state
@@ -17,8 +16,7 @@ end_state bs = sheet_state bs (replicate 8192 0)
 unfoldable pub printed_sheet : List ℕ → List ℕ
 printed_sheet bs = printed (end_state bs).log (progress_in (end_state bs))
 
--- the text, with zeros behind it, and the bytes afterwards
-pub record Prints (bs : List ℕ) (r : Printed) (bs' : List ℕ) : Type 0 where
-  pub text : r.text ≡ printed_sheet bs ++ drop (length (printed_sheet bs)) (replicate 65664 0)
-  pub count : r.length ≡ length (printed_sheet bs)
+-- the printed text, and the bytes afterwards
+pub record Prints (bs t bs' : List ℕ) : Type 0 where
+  pub text : t ≡ printed_sheet bs
   pub bytes : bs' ≡ (end_state bs).memory

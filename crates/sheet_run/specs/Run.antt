@@ -1,27 +1,18 @@
 -- The run of a sheet (document 01, "Chain and sheet"): its chain as a transaction of kinds 1 to 9, on its memory.
-use Rattle.std.specs.Prelude.{◌≡◌, List, [], ◌++◌, ℕ, ◌+◌, ◌-◌, ◌*◌, ◌≤◌, eqb, length, take}
+use Rattle.std.specs.Prelude.{◌≡◌, List, [], ◌++◌, ℕ, ◌-◌, None, eqb, length, take}
 use Rattle.model.specs.State.{State, begun, with_number, with_memory}
 use Rattle.access.specs.declared.progress.Progress.{Progress}
 use Rattle.access.specs.Of.{state_of}
 use Rattle.chain.specs.Transaction.{Request, outcome}
-use Rattle.sheet.specs.declared.Header.{Header}
-use Rattle.sheet.specs.declared.Opened.{Opened}
-use Rattle.sheet.specs.Open.{opened, number_of}
+use Rattle.sheet.specs.Open.{number_of}
 use Rattle.sheet.specs.Sheet.{Sheet, Parsed, refused, sheet, parse}
 
 abbrev pub chain_in : Sheet → Request
 chain_in s = record { rate = s.rate; qpi = eqb s.qpi 1; highest = 9; words = s.records }
 
--- the header of bytes that are a sheet, and what it says of their number
-pub record Heads (bs : List ℕ) (h : Header) : Type 0 where
-  pub is : opened bs ≡ Opened.Accepted h
-  pub fits : 20 + 32 * h.records + 4 * h.answers ≤ length bs
-  pub most : length bs ≤ 65536
-  pub memory : h.memory ≡ 20 + 32 * h.records + 4 * h.answers
-
 -- 13, which precedes the rest and has no memory, or the chain's outcome
 unfoldable pub sheet_outcome : Parsed → List ℕ → State
-sheet_outcome refused log = with_number (number_of Opened.Refused) (begun log [])
+sheet_outcome refused log = with_number (number_of None) (begun log [])
 sheet_outcome (sheet s) log = outcome (chain_in s) s.limit s.answers log s.memory
 
 -- the lent bytes with another memory behind header, records and answers; refused ones as they were

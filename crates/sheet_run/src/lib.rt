@@ -1,96 +1,64 @@
 // The run of a sheet, whose memory is the end of its bytes.
-#![tactic(auto)]
+#![tactic(auto, using(crate::proofs::Sheets::heads))]
 
-ghost use Rattle.std.specs.Prelude.{◌≡◌, ◌+◌, ◌*◌, ◌≤◌, length, drop};
-ghost use Rattle.sheet.specs.Words.{words as sheet_words};
-ghost use Rattle.sheet_run.specs.Run.{Heads, RunsSheet};
+ghost use Rattle.std.specs.Prelude.{◌≡◌, ◌+◌, ◌*◌, ◌≤◌, Some};
+ghost use Rattle.sheet.specs.Open.{opened};
+ghost use Rattle.sheet_run.specs.Run.{RunsSheet};
 
 use access::Progress;
 use config::number;
-use sheet::{Header, Opened};
+use sheet::Header;
 
 pub mod print;
 
-// A sheet of this header, whose records and answers are these words.
-fn run_words(bytes: &mut [u8], log: &mut [u32], h: Header, words: &[u32]) -> Progress
-    requires heads { Heads bytes.old h }
-    requires words_value { words.now ≡ sheet_words (8 * h.records + h.answers) (drop 20 bytes.old) }
+// A sheet of this header, whose records and answers are read into a room of N words.
+fn run_in<const N: usize>(bytes: &mut [u8], log: &mut [u32], h: Header) -> Progress
+    requires header { opened bytes.old ≡ Some h }
+    requires room { 8 * h.records + h.answers ≤ N }
+    requires most { N ≤ 16384 }
     ensures { RunsSheet bytes.old log.old result log.new bytes.new }
 {
     let n = 8 * h.records;
-    let at = h.memory;
+    let mut room = [0u32; N];
+    let words = &mut room[..n + h.answers];
+    sheet::fill(&bytes[20..], words);
+    let (records, answers) = words.split_at(n);
     chain::transact(
         h.limit,
         h.rate,
-        h.qpi == 1,
+        h.qpi,
         9,
         log,
-        &words[n..],
-        &mut bytes[at..],
-        &words[..n],
+        answers,
+        &mut bytes[h.memory..],
+        records,
     )
 }
 
-// A sheet of this header; its records and answers are read into `room`.
-fn run_in(bytes: &mut [u8], log: &mut [u32], h: Header, room: &mut [u32]) -> Progress
-    requires heads { Heads bytes.old h }
-    requires answers_in_bounds { 8 * h.records + h.answers ≤ length room.old }
-    ensures { RunsSheet bytes.old log.old result log.new bytes.new }
-{
-    let all = 8 * h.records + h.answers;
-    sheet::fill(bytes, 20, &mut room[..all]);
-    run_words(bytes, log, h, &room[..all])
-}
-
-// A sheet of this header, however many words it has. This room is in a function of its own: a smaller sheet does not touch its stack.
+// However many words the sheet has. It is not inlined: a smaller sheet does not touch the stack of this room.
+#[inline(never)]
 fn run_large(bytes: &mut [u8], log: &mut [u32], h: Header) -> Progress
-    requires { Heads bytes.old h }
+    requires { opened bytes.old ≡ Some h }
     ensures { RunsSheet bytes.old log.old result log.new bytes.new }
 {
-    let mut room = [0u32; 16384];
-    run_in(bytes, log, h, &mut room)
+    run_in::<16384>(bytes, log, h)
 }
 
-// A sheet of this header. Its room is cleared first, so it has 64 words or less than twice as many as are needed, up to 2,048.
-fn run_opened(bytes: &mut [u8], log: &mut [u32], h: Header) -> Progress
-    requires { Heads bytes.old h }
-    ensures { RunsSheet bytes.old log.old result log.new bytes.new }
-{
-    let all = 8 * h.records + h.answers;
-    if all <= 64 {
-        let mut room = [0u32; 64];
-        return run_in(bytes, log, h, &mut room);
-    }
-    if all <= 128 {
-        let mut room = [0u32; 128];
-        return run_in(bytes, log, h, &mut room);
-    }
-    if all <= 256 {
-        let mut room = [0u32; 256];
-        return run_in(bytes, log, h, &mut room);
-    }
-    if all <= 512 {
-        let mut room = [0u32; 512];
-        return run_in(bytes, log, h, &mut room);
-    }
-    if all <= 1024 {
-        let mut room = [0u32; 1024];
-        return run_in(bytes, log, h, &mut room);
-    }
-    if all <= 2048 {
-        let mut room = [0u32; 2048];
-        return run_in(bytes, log, h, &mut room);
-    }
-    run_large(bytes, log, h)
-}
-
-// Any bytes: 13, or the run of the sheet that they are.
+// Any bytes: 13, or the run of the sheet that they are. Its room is cleared first, so it has 64 words or less than twice
+// as many as are needed, up to 2,048.
 pub fn run(bytes: &mut [u8], log: &mut [u32]) -> Progress
     ensures { RunsSheet bytes.old log.old result log.new bytes.new }
 {
-    let opened = sheet::open(bytes);
-    match opened {
-        Opened::Refused => Progress::new().ended(number::SHEET),
-        Opened::Accepted(h) => run_opened(bytes, log, h),
+    let Some(h) = sheet::open(bytes) else {
+        return Progress::new().ended(number::SHEET);
+    };
+    match 8 * h.records + h.answers {
+        0..=64 => run_in::<64>(bytes, log, h),
+        65..=128 => run_in::<128>(bytes, log, h),
+        129..=256 => run_in::<256>(bytes, log, h),
+        257..=512 => run_in::<512>(bytes, log, h),
+        513..=1024 => run_in::<1024>(bytes, log, h),
+        1025..=2048 => run_in::<2048>(bytes, log, h),
+        _ => run_large(bytes, log, h),
     }
 }

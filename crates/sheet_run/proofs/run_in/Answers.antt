@@ -1,22 +1,19 @@
-use native.Mathlib.Omega.{arith}
+use mathlib.Core.Path.{◌∙◌}
 use Prim.Native.Nat.{◌+◌, ◌*◌}
-use lib.ListN.{drop, length-take}
-use Rattle.sheet_run.proofs.Sheets.{read_count, read_words}
+use native.Mathlib.Omega.{arith}
+use lib.ListN.{length-replicate, replicate}
+use Rattle.sheet_run.proofs.Sheets.{heads, read_words, held_front, held_behind, sheet_runs}
 use Rattle.sheet_run.proofs.run_in.Goals as goal
 
-pub slice_bounds-fill-end-2 : goal.slice_bounds-fill-end-2
-slice_bounds-fill-end-2 c = simp length-take (omega (arith, c.requires.answers_in_bounds))
+pub whole_as_front-words : goal.whole_as_front-words
+whole_as_front-words g c = (c.requires.room, omega arith)
 
-pub fill-requires : goal.fill-requires
-fill-requires c = simp length-take (omega (arith, c.requires.heads.fits, c.requires.answers_in_bounds))
-
-pub slice_bounds-run_words-end-2 : goal.slice_bounds-run_words-end-2
-slice_bounds-run_words-end-2 c = read_count (8 * c.args.h.records + c.args.h.answers) c.args.room.now (drop 20 c.args.bytes.now)
-    (drop (8 * c.args.h.records + c.args.h.answers) c.args.room.now) c.requires.answers_in_bounds c.fill.ensures
-
-pub run_words-requires : goal.run_words-requires
-run_words-requires c = record {
-  heads = c.requires.heads;
-  words_value = read_words (8 * c.args.h.records + c.args.h.answers) c.args.room.now (drop 20 c.args.bytes.now)
-      (drop (8 * c.args.h.records + c.args.h.answers) c.args.room.now) c.requires.answers_in_bounds c.fill.ensures;
-}
+pub returns : goal.returns
+returns g c =
+    let bs = c.args.bytes.now in
+    let n = 8 * c.args.h.records in
+    let a = c.args.h.answers in
+    let room = replicate g.row.N 0 in
+    let e = read_words (n + a) room bs (simp length-replicate c.requires.room) c.fill.ensures in
+    sheet_runs bs _ c.args.h (heads bs _ c.requires.header)
+    (c.split_at.ensures.front ∙ held_front n a bs e) (c.split_at.ensures.back ∙ held_behind n a bs e) c.transact.ensures
