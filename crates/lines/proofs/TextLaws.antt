@@ -1,16 +1,20 @@
 -- Writing one text after another, how many digits a number takes, and the lines of a log.
-use Prim.Native.Nat.{ℕ, zero, suc, ◌+◌, ◌-◌, ◌*◌, ◌^◌, ◌≤◌, ◌<◌}
+use Prim.Native.Nat.{ℕ, zero, suc, ◌+◌, ◌-◌, ◌*◌, ◌/◌, ◌^◌, ◌≤◌, ◌<◌, min, max}
 use mathlib.Core.Path.{◌≡◌, refl, sym, ap, ap₂, ◌∙◌}
 use mathlib.Core.Bool.{Bool, true, false, cond}
 use mathlib.Core.List.{List, [], ◌∷◌, ◌++◌, append_assoc, append-nil}
 use native.Mathlib.Omega.{arith}
 use native.Mathlib.Decide.{dec_lt, dec_le}
-use native.Mathlib.Nat.{add_assoc, add-sub_cancel_left, pow-le-pow_right}
-use lib.ListN.{length, get_or, take, drop, length-append, length-drop}
-use lib.Seq.{take_at, drop_at, drop-drop, length-take-le}
+use native.Mathlib.Nat.{add_assoc, pow-le-pow_right}
+use lib.ListN.{length, get_or, take, drop, length-append, length-drop, length-take}
+use lib.Seq.{take_at, drop_at, drop-drop, length-take-le, get_or-drop}
+use Rattle.std.proofs.lemmas.List.{get_or-take}
+use Rattle.std.specs.Simd.{first_chunks}
 use lib.Dec.{leb}
 use borrow.Author.Tests.{leb-true, leb-false}
 use Rattle.io.specs.Digits.{last_digits, IsDigitCount}
+use Rattle.lines.specs.declared.Writer.{Writer}
+use Rattle.lines.specs.Writer.{Puts}
 use Rattle.lines.specs.Text.{letter_of, entry_line, entry_lines, places, number, written, Wrote}
 
 -- what is written keeps what stands before and after it
@@ -51,24 +55,19 @@ module _ {d d' : List ℕ} {at at' : ℕ} {x : List ℕ} (w : Wrote d at d' at' 
         room = omega (arith, w.place, v.room, wrote_long, length-append x y);
       }
 
-pub wrote_as : {d d' : List ℕ} {at at' : ℕ} {x y : List ℕ} → x ≡ y → Wrote d at d' at' x → Wrote d at d' at' y
-wrote_as e w = rw (← e) w
-
 pub wrote_start : (d : List ℕ) → Wrote d 0 d 0 []
 wrote_start d = record { text = refl; place = refl; room = omega arith }
 
--- a part of a list that becomes another of its length is a write
-pub wrote_part :
-    (d s ys : List ℕ) (at : ℕ)
-    → at + length s ≤ length d
-    → ys ≡ s
-    → Wrote d at (take at d ++ (ys ++ drop (at + length s - at) (drop at d))) (at + length s) s
-wrote_part d s ys at h e =
-    record {
-      text = rw (e, add-sub_cancel_left, drop-drop (length s) at d) refl;
-      place = refl;
-      room = h;
-    }
+-- the same of a writer: one text after another, and a text that is equal
+pub puts_then : {w w' w'' : Writer} {x y : List ℕ} → Puts w w' x → Puts w' w'' y → Puts w w'' (x ++ y)
+puts_then p q = record { same = q.same ∙ p.same; wrote = wrote_then p.wrote q.wrote }
+
+pub puts_as : {w w' : Writer} {x y : List ℕ} → x ≡ y → Puts w w' x → Puts w w' y
+puts_as e p = rw (← e) p
+
+-- a buffer that ends as its writer leaves it
+pub puts_end : {w w' : Writer} {x y : List ℕ} → Puts w w' x → y ≡ w'.buffer.now → Wrote w.buffer.now w.len y w'.len x
+puts_end p e = rw e p.wrote
 
 -- the fewest digits that hold a number are `places`
 module _ (n r : ℕ) (f : IsDigitCount 10 1 n r) where
@@ -104,10 +103,18 @@ module _ (n r : ℕ) (f : IsDigitCount 10 1 n r) where
       go (yes p) = p
       go (no p) = absurd (omega (arith, f.2 (omega arith), pow-le-pow_right {n = 10} (omega arith) {i = 20} {j = r - 1} (omega arith)))
 
+-- a number below 16 ^ w takes w hexadecimal digits, with zeros in front
+pub hex_width : (n w r : ℕ) → 0 < w → w ≤ 16 → n < 16 ^ w → IsDigitCount 16 (min (max w 1) 16) n r → r ≡ w
+hex_width n w r p m h f = go (dec_lt w r)
+  where
+    go : Dec (w < r) → r ≡ w
+    go (yes q) = absurd (omega (arith, f.2 (omega arith), pow-le-pow_right {n = 16} (omega arith) {i = w} {j = r - 1} (omega arith)))
+    go (no q) = omega (arith, f.0)
+
 -- the lines of one entry more
-pub line_long : (w v : ℕ) {l : List ℕ} → l ≡ entry_line w v → length l ≡ 16
+pub line_long : (w v : ℕ) → length (entry_line w v) ≡ 16
 unfolding entry_line
-line_long w v e = ap length e
+line_long w v = refl
 
 pub lines_more :
     (i : ℕ) (log : List ℕ)
@@ -123,6 +130,30 @@ lines_more zero [] h = absurd (omega arith)
 lines_more zero (w ∷ []) h = absurd (omega arith)
 lines_more (suc i) [] h = absurd (omega arith)
 lines_more (suc i) (w ∷ []) h = absurd (omega arith)
+
+-- entry i of a log, read from its pieces of two
+pair_at : (n i : ℕ) (log : List ℕ) (k : ℕ) → k < 2 → i < n → get_or (get_or (first_chunks 2 n log) i []) k 0 ≡ get_or log (2 * i + k) 0
+pair_at zero i log k h g = absurd (omega arith)
+pair_at (suc n) zero log k h g =
+    let e : k ≡ 0 + k = omega arith in
+    get_or-take 2 log k 0 h ∙ ap (λ (j : ℕ). get_or log j 0) e
+pair_at (suc n) (suc i) log k h g =
+    let e : 2 + (2 * i + k) ≡ 2 * suc i + k = omega arith in
+    pair_at n i (drop 2 log) k h (omega arith) ∙ get_or-drop 2 log (2 * i + k) 0 ∙ ap (λ (j : ℕ). get_or log j 0) e
+
+pub entry_at :
+    (n i : ℕ) (log : List ℕ) {ps : List (List ℕ)}
+    → ps ≡ first_chunks 2 (length log / 2) log
+    → length ps ≡ length log / 2
+    → i < length (take n ps)
+    → entry_line (get_or (get_or (take n ps) i []) 0 0) (get_or (get_or (take n ps) i []) 1 0)
+    ≡ entry_line (get_or log (2 * i) 0) (get_or log (2 * i + 1) 0)
+entry_at n i log {ps} e l h =
+    let m : length (take n ps) ≡ min n (length ps) = length-take n ps in
+    let at : (k : ℕ) → k < 2 → get_or (get_or (take n ps) i []) k 0 ≡ get_or log (2 * i + k) 0
+    = λ k q. ap (λ (p : List ℕ). get_or p k 0) (get_or-take n ps i [] (omega arith) ∙ ap (λ (qs : List (List ℕ)). get_or qs i []) e) ∙ pair_at (length log / 2) i log k q (omega arith) in
+    let z : 2 * i + 0 ≡ 2 * i = omega arith in
+    ap₂ entry_line (at 0 (omega arith) ∙ ap (λ (j : ℕ). get_or log j 0) z) (at 1 (omega arith))
 
 -- an op that is none of the five
 pub other_letter : (op : ℕ) → (op ≡ 1 → ⊥) → (op ≡ 2 → ⊥) → (op ≡ 3 → ⊥) → (op ≡ 4 → ⊥) → (op ≡ 5 → ⊥) → 63 ≡ letter_of op
