@@ -108,7 +108,8 @@ pub hex_width : (n w r : ℕ) → 0 < w → w ≤ 16 → n < 16 ^ w → IsDigitC
 hex_width n w r p m h f = go (dec_lt w r)
   where
     go : Dec (w < r) → r ≡ w
-    go (yes q) = absurd (omega (arith, f.2 (omega arith), pow-le-pow_right {n = 16} (omega arith) {i = w} {j = r - 1} (omega arith)))
+    go (yes q) =
+        absurd (omega (arith, f.2 (omega arith), pow-le-pow_right {n = 16} (omega arith) {i = w} {j = r - 1} (omega arith)))
     go (no q) = omega (arith, f.0)
 
 -- the lines of one entry more
@@ -132,7 +133,11 @@ lines_more (suc i) [] h = absurd (omega arith)
 lines_more (suc i) (w ∷ []) h = absurd (omega arith)
 
 -- entry i of a log, read from its pieces of two
-pair_at : (n i : ℕ) (log : List ℕ) (k : ℕ) → k < 2 → i < n → get_or (get_or (first_chunks 2 n log) i []) k 0 ≡ get_or log (2 * i + k) 0
+pair_at :
+    (n i : ℕ) (log : List ℕ) (k : ℕ)
+    → k < 2
+    → i < n
+    → get_or (get_or (first_chunks 2 n log) i []) k 0 ≡ get_or log (2 * i + k) 0
 pair_at zero i log k h g = absurd (omega arith)
 pair_at (suc n) zero log k h g =
     let e : k ≡ 0 + k = omega arith in
@@ -150,8 +155,10 @@ pub entry_at :
     ≡ entry_line (get_or log (2 * i) 0) (get_or log (2 * i + 1) 0)
 entry_at n i log {ps} e l h =
     let m : length (take n ps) ≡ min n (length ps) = length-take n ps in
-    let at : (k : ℕ) → k < 2 → get_or (get_or (take n ps) i []) k 0 ≡ get_or log (2 * i + k) 0
-    = λ k q. ap (λ (p : List ℕ). get_or p k 0) (get_or-take n ps i [] (omega arith) ∙ ap (λ (qs : List (List ℕ)). get_or qs i []) e) ∙ pair_at (length log / 2) i log k q (omega arith) in
+    let is : get_or (take n ps) i [] ≡ get_or (first_chunks 2 (length log / 2) log) i [] =
+    get_or-take n ps i [] (omega arith) ∙ ap (λ (qs : List (List ℕ)). get_or qs i []) e in
+    let at : (k : ℕ) → k < 2 → get_or (get_or (take n ps) i []) k 0 ≡ get_or log (2 * i + k) 0 =
+    λ k q. ap (λ (p : List ℕ). get_or p k 0) is ∙ pair_at (length log / 2) i log k q (omega arith) in
     let z : 2 * i + 0 ≡ 2 * i = omega arith in
     ap₂ entry_line (at 0 (omega arith) ∙ ap (λ (j : ℕ). get_or log j 0) z) (at 1 (omega arith))
 

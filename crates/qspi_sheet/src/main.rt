@@ -1,5 +1,5 @@
-// Reads a sheet from standard input and prints its lines. One byte more than a sheet may have is read, to see that there
-// are too many.
+// Reads a sheet from standard input and prints its lines. One byte more than a sheet may have is read, to see that
+// there are too many.
 #![tactic(auto)]
 
 fn main() {

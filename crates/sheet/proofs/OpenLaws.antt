@@ -37,7 +37,10 @@ word_taken (a ∷ b ∷ []) = omega arith
 word_taken (a ∷ b ∷ c ∷ []) = omega arith
 word_taken (a ∷ b ∷ c ∷ d ∷ t) = omega arith
 
-chunk_word : (n i : ℕ) (bs : List ℕ) → i < n → from_le_bytes w32 (get_or (first_chunks 4 n bs) i []) ≡ word_at bs (4 * i)
+chunk_word :
+    (n i : ℕ) (bs : List ℕ)
+    → i < n
+    → from_le_bytes w32 (get_or (first_chunks 4 n bs) i []) ≡ word_at bs (4 * i)
 chunk_word zero i bs h = absurd (omega arith)
 chunk_word (suc n) zero bs h = word_taken bs
 chunk_word (suc n) (suc i) bs h =
@@ -45,15 +48,29 @@ chunk_word (suc n) (suc i) bs h =
     chunk_word n i (drop 4 bs) (omega arith) ∙ word_at_drop 4 bs (4 * i) ∙ ap (word_at bs) e
 
 -- word i of the bytes, read from their pieces of four
-pub word_in : (bs : List ℕ) {ws : List (List ℕ)} → ws ≡ first_chunks 4 (length bs / 4) bs → (i : ℕ) {w : ℕ} → 4 * i + 4 ≤ length bs
+pub word_in :
+    (bs : List ℕ) {ws : List (List ℕ)}
+    → ws ≡ first_chunks 4 (length bs / 4) bs
+    → (i : ℕ) {w : ℕ}
+    → 4 * i + 4 ≤ length bs
     → w ≡ from_le_bytes w32 (get_or ws i []) → w ≡ word_at bs (4 * i)
-word_in bs e i h f = f ∙ ap (λ (l : List (List ℕ)). from_le_bytes w32 (get_or l i [])) e ∙ chunk_word (length bs / 4) i bs (omega arith)
+word_in bs e i h f =
+    f
+    ∙ ap (λ (l : List (List ℕ)). from_le_bytes w32 (get_or l i [])) e
+    ∙ chunk_word (length bs / 4) i bs (omega arith)
 
 -- a buffer ys that is filled with words: one word more
-put_next : (p l : List ℕ) (i a : ℕ) → length p ≡ i → i < length l → set (p ++ drop i l) i a ≡ (p ++ (a ∷ [])) ++ drop (i + 1) l
+put_next :
+    (p l : List ℕ) (i a : ℕ)
+    → length p ≡ i
+    → i < length l
+    → set (p ++ drop i l) i a ≡ (p ++ (a ∷ [])) ++ drop (i + 1) l
 put_next p l i a e h = rw (add-one, append_assoc, drop-cons l i 0) (set_at p _ _ a i e)
 
-pub filled_more : (bs ys : List ℕ) (i : ℕ) → i < length ys → set (words i bs ++ drop i ys) i (word_at bs (4 * i)) ≡ words (i + 1) bs ++ drop (i + 1) ys
+pub filled_more :
+    (bs ys : List ℕ) (i : ℕ)
+    → i < length ys
+    → set (words i bs ++ drop i ys) i (word_at bs (4 * i)) ≡ words (i + 1) bs ++ drop (i + 1) ys
 filled_more bs ys i h =
     put_next (words i bs) ys i (word_at bs (4 * i)) (words_length i bs) h
     ∙ ap (λ (l : List ℕ). l ++ drop (i + 1) ys) (rw (add-one i) (sym (words_snoc i bs)))

@@ -38,7 +38,10 @@ module _ (bs : List ℕ) {p : Progress} {log' bs' : List ℕ} (d : RunsSheet bs 
       let e : p.entries ≡ (sheet_state bs (replicate 8192 0)).entries = ap (λ st. st.entries) d.state in
       omega (arith, e, entries_fit bs (replicate 8192 0), length-replicate {A = ℕ} 8192 0)
 
-  pub prints : {text : List ℕ} {n : ℕ} → Wrote (replicate 65664 0) 0 text n (printed log' p) → Behind text n × Prints bs (take n text) bs'
+  pub prints :
+      {text : List ℕ} {n : ℕ}
+      → Wrote (replicate 65664 0) 0 text n (printed log' p)
+      → Behind text n × Prints bs (take n text) bs'
   unfolding printed_sheet end_state
   prints {text} {n} w =
       let x = printed log' p in
@@ -46,5 +49,7 @@ module _ (bs : List ℕ) {p : Progress} {log' bs' : List ℕ} (d : RunsSheet bs 
       let z : 0 + length x ≡ length x = omega arith in
       let l : n ≡ length x = w.place ∙ z in
       let t : text ≡ filled x = w.text ∙ ap (λ k. x ++ drop k (replicate 65664 0)) z in
-      let front : take n text ≡ x = ap₂ take l t ∙ take-append_seam x _ in
-      (record { within = rw (l, t) (simp length-append (omega arith)); zeros = t ∙ ap filled (sym front) }, record { text = front ∙ e; bytes = ap (λ st. st.memory) d.state })
+      let front : take n text ≡ x = ap₂ take l t ∙ take-append_seam x _ in (
+        record { within = rw (l, t) (simp length-append (omega arith)); zeros = t ∙ ap filled (sym front) },
+        record { text = front ∙ e; bytes = ap (λ st. st.memory) d.state },
+      )

@@ -35,8 +35,13 @@ heads bs h e = let p = opened_is bs h e in by p.0 h p.1
     by ok g q = rw q (record { is = refl; ok = ok; fits = ok.enough; most = ok.most; memory = refl })
 
 -- the n words that a room was filled with, from byte 20 on
-pub read_words : (n : ℕ) (zs bs : List ℕ) {ws : List ℕ} → n ≤ length zs → ws ≡ words (length (take n zs)) (take (length bs - 20) (drop 20 bs)) → ws ≡ words n (drop 20 bs)
-read_words n zs bs h e = e ∙ ap₂ words (length-take-le n zs h) (take_all (length bs - 20) (drop 20 bs) (simp length-drop (omega arith)))
+pub read_words :
+    (n : ℕ) (zs bs : List ℕ) {ws : List ℕ}
+    → n ≤ length zs
+    → ws ≡ words (length (take n zs)) (take (length bs - 20) (drop 20 bs))
+    → ws ≡ words n (drop 20 bs)
+read_words n zs bs h e =
+    e ∙ ap₂ words (length-take-le n zs h) (take_all (length bs - 20) (drop 20 bs) (simp length-drop (omega arith)))
 
 -- the first n words, and those behind them
 words_front : (n a : ℕ) (bs : List ℕ) → take n (words (n + a) bs) ≡ words n bs
@@ -58,7 +63,12 @@ module _ (n a : ℕ) (bs : List ℕ) {ws : List ℕ} (e : ws ≡ words (n + a) (
   held_behind = rw e (words_behind n a (drop 20 bs) ∙ ap (words a) (drop-drop (4 * n) 20 bs))
 
 -- 13
-pub sheet_refused : (bs log : List ℕ) {p q : Progress} → opened bs ≡ None → p ≡ begun → q ≡ with_number (number_of None) p → RunsSheet bs log q log bs
+pub sheet_refused :
+    (bs log : List ℕ) {p q : Progress}
+    → opened bs ≡ None
+    → p ≡ begun
+    → q ≡ with_number (number_of None) p
+    → RunsSheet bs log q log bs
 unfolding sheet_state sheet_outcome
 sheet_refused bs log e b f = record { state = rw (f, b, refused_is bs e) refl }
 

@@ -13,5 +13,9 @@ pub record Behind (b : List ℕ) (n : ℕ) : Type 0 where
   pub zeros : b ≡ filled (take n b)
 
 -- the buffer and the length are those of the text
-pub filled_back : {A : Type 0} (b : List ℕ) (n : ℕ) → Behind b n → (f : List ℕ → ℕ → A) → f (filled (take n b)) (length (take n b)) ≡ f b n
+pub filled_back :
+    {A : Type 0} (b : List ℕ) (n : ℕ)
+    → Behind b n
+    → (f : List ℕ → ℕ → A)
+    → f (filled (take n b)) (length (take n b)) ≡ f b n
 filled_back b n h f = ap₂ f (sym h.zeros) (length-take-le n b h.within)

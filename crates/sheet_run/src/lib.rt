@@ -44,8 +44,8 @@ fn run_large(bytes: &mut [u8], log: &mut [u32], h: Header) -> Progress
     run_in::<16384>(bytes, log, h)
 }
 
-// Any bytes: 13, or the run of the sheet that they are. Its room is cleared first, so it has 64 words or less than twice
-// as many as are needed, up to 2,048.
+// Any bytes: 13, or the run of the sheet that they are. Its room is cleared first, so it has 64 words or less than
+// twice as many as are needed, up to 2,048.
 pub fn run(bytes: &mut [u8], log: &mut [u32]) -> Progress
     ensures { RunsSheet bytes.old log.old result log.new bytes.new }
 {

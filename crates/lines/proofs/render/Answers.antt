@@ -14,7 +14,8 @@ pub loop-head-preserved : goal.loop-head-preserved
 loop-head-preserved c =
     let log = c.args.log.now in
     let i = c.loop-head.head-index in
-    let e = entry_at c.args.end.entries i log c.as_chunks.ensures.front c.as_chunks.ensures.front_len c.loop-head-test.true in
+    let ps = c.as_chunks.ensures in
+    let e = entry_at c.args.end.entries i log ps.front ps.front_len c.loop-head-test.true in
     let p = rw e at c.put_entry.ensures in
     record {
       len = omega (arith, p.wrote.place, line_long);

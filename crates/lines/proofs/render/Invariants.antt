@@ -6,4 +6,7 @@ use Rattle.lines.specs.Writer.{Puts}
 use Rattle.lines.proofs.render.Given as goal
 
 abbrev pub invariant-loop-head : goal.invariant-loop-head
-invariant-loop-head l = record { len : l.lines.len ≡ 16 * l.head-index; put : Puts l.initial.lines l.lines (entry_lines (take (2 * l.head-index) l.log)) }
+invariant-loop-head l = record {
+  len : l.lines.len ≡ 16 * l.head-index;
+  put : Puts l.initial.lines l.lines (entry_lines (take (2 * l.head-index) l.log));
+}
