@@ -11,10 +11,12 @@ use sheet::Header;
 
 pub mod print;
 
-// A sheet of this header, whose records and answers are read into a room of N words.
-fn run_in<const N: usize>(bytes: &mut [u8], log: &mut [u32], h: Header) -> Progress
-    requires header { opened bytes.old ≡ Some h }
-    requires room { 8 * h.records + h.answers ≤ N }
+// A sheet of this header, whose records and answers are read into a room of N words. It is always inlined: as a
+// function of its own it copies the progress once more, which document 01's sheet shows.
+#[inline(always)]
+fn run_in<const N: usize>(bytes: &mut [u8], log: &mut [u32], h: &Header) -> Progress
+    requires header { opened bytes.old ≡ Some h.now }
+    requires room { 8 * h.now.records + h.now.answers ≤ N }
     requires most { N ≤ 16384 }
     ensures { RunsSheet bytes.old log.old result log.new bytes.new }
 {
@@ -35,13 +37,17 @@ fn run_in<const N: usize>(bytes: &mut [u8], log: &mut [u32], h: Header) -> Progr
     )
 }
 
-// However many words the sheet has. It is not inlined: a smaller sheet does not touch the stack of this room.
+// However many words the sheet has. It is not inlined: a smaller sheet does not touch the stack of these rooms.
 #[inline(never)]
-fn run_large(bytes: &mut [u8], log: &mut [u32], h: Header) -> Progress
-    requires { opened bytes.old ≡ Some h }
+fn run_large(bytes: &mut [u8], log: &mut [u32], h: &Header) -> Progress
+    requires { opened bytes.old ≡ Some h.now }
     ensures { RunsSheet bytes.old log.old result log.new bytes.new }
 {
-    run_in::<16384>(bytes, log, h)
+    if 8 * h.records + h.answers <= 2048 {
+        run_in::<2048>(bytes, log, h)
+    } else {
+        run_in::<16384>(bytes, log, h)
+    }
 }
 
 // Any bytes: 13, or the run of the sheet that they are. Its room is cleared first, so it has 64 words or less than
@@ -53,12 +59,11 @@ pub fn run(bytes: &mut [u8], log: &mut [u32]) -> Progress
         return Progress::new().ended(number::SHEET);
     };
     match 8 * h.records + h.answers {
-        0..=64 => run_in::<64>(bytes, log, h),
-        65..=128 => run_in::<128>(bytes, log, h),
-        129..=256 => run_in::<256>(bytes, log, h),
-        257..=512 => run_in::<512>(bytes, log, h),
-        513..=1024 => run_in::<1024>(bytes, log, h),
-        1025..=2048 => run_in::<2048>(bytes, log, h),
-        _ => run_large(bytes, log, h),
+        0..=64 => run_in::<64>(bytes, log, &h),
+        65..=128 => run_in::<128>(bytes, log, &h),
+        129..=256 => run_in::<256>(bytes, log, &h),
+        257..=512 => run_in::<512>(bytes, log, &h),
+        513..=1024 => run_in::<1024>(bytes, log, &h),
+        _ => run_large(bytes, log, &h),
     }
 }

@@ -11,9 +11,9 @@ whole_as_front-words g c = (c.requires.room, omega arith)
 pub returns : goal.returns
 returns g c =
     let bs = c.args.bytes.now in
-    let n = 8 * c.args.h.records in
-    let a = c.args.h.answers in
+    let n = 8 * c.args.h.now.records in
+    let a = c.args.h.now.answers in
     let room = replicate g.row.N 0 in
     let e = read_words (n + a) room bs (simp length-replicate c.requires.room) c.fill.ensures in
-    sheet_runs bs _ c.args.h (heads bs _ c.requires.header)
+    sheet_runs bs _ c.args.h.now (heads bs _ c.requires.header)
     (c.split_at.ensures.front ∙ held_front n a bs e) (c.split_at.ensures.back ∙ held_behind n a bs e) c.transact.ensures
