@@ -1,12 +1,10 @@
 -- A field of a word by mask and shift, for every place and width.
 use mathlib.Core.Path.{◌≡◌, refl, ap, ap₂, sym, ◌∙◌}
-use mathlib.Core.Bool.{Bool, true, false, cond}
 use Prim.Native.Nat.{ℕ, ◌+◌, ◌-◌, ◌*◌, ◌/◌, ◌%◌, ◌^◌, ◌<◌}
 use native.Mathlib.Omega.{arith}
 use native.Mathlib.Nat.{zero-mul, zero-add, mod-lt, mod-eq_of_lt, le-add_left, lt_of_lt_of_le}
 use lib.Pow.{pow_pos, pow_mono, shr_lt, shl_lt, shl_exact, split, ones_lt, ones_split, mod-mod-pow}
 use lib.Bits.{bit_and, bit_or, and_mask, mask_lt, and_block, or_block, or_zero_r, or_shifted_r}
-use mir.Val.{bool_byte}
 use Rattle.model.specs.Field.{get_field, set_field}
 
 -- A field is shifted out and masked.
@@ -17,11 +15,6 @@ shifted_out place width word = and_mask (word / 2 ^ place) width
 -- What is shifted out has at most `width` bits.
 pub shifted_out_fits : (place width word : ℕ) → bit_and (word / 2 ^ place) (2 ^ width - 1) < 2 ^ width
 shifted_out_fits place width word = mask_lt (word / 2 ^ place) width
-
--- a flag as the code casts it to a number
-pub flag_bit : (b : Bool) → bool_byte b ≡ cond b 1 0
-flag_bit true = refl
-flag_bit false = refl
 
 -- `above` bits lie over the field: the word has above + width + place bits
 module _ (above width place : ℕ) where
@@ -61,3 +54,10 @@ module _ (above width place : ℕ) where
       ∙ or_block (width + place) (word / 2 ^ (width + place)) 0 (word % 2 ^ place) (value % 2 ^ width * 2 ^ place)
       (below _ low) (shl_lt width place (mod-lt value (pow_pos width)))
       ∙ omega (arith, ap (◌* 2 ^ (width + place)) (or_zero_r (word / 2 ^ (width + place))), or_shifted_r (value % 2 ^ width) place (word % 2 ^ place) low)
+
+  -- The new value as the code casts it.
+  pub cast_in : (word : ℕ) {cast value : ℕ} → cast ≡ value → word < 2 ^ (above + (width + place))
+      → bit_or (bit_and word (2 ^ (above + (width + place)) - 1 - (2 ^ width - 1) * 2 ^ place))
+      (bit_and cast (2 ^ width - 1) * 2 ^ place % 2 ^ (above + (width + place)))
+      ≡ set_field place width value word
+  cast_in word {value = value} e h = rw e (shifted_in word value h)

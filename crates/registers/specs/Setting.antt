@@ -1,5 +1,5 @@
--- The number that a field holds for each setting (document 01, "Steps").
-use Rattle.std.specs.Prelude.{ℕ}
+-- The number that a field holds for each setting (document 01, "Steps"), and the setting of a flag.
+use Rattle.std.specs.Prelude.{Bool, true, false, ℕ}
 use Rattle.registers.specs.declared.setting.CtrlMode.{CtrlMode}
 use Rattle.registers.specs.declared.setting.CtrlMode.TheVariants.{Slave, Master}
 use Rattle.registers.specs.declared.setting.CsLevel.{CsLevel}
@@ -57,3 +57,24 @@ polarity_bits IdleHigh = 1
 abbrev pub phase_bits : Phase → ℕ
 phase_bits CaptureOnFirstTransition = 0
 phase_bits CaptureOnSecondTransition = 1
+
+-- the setting whose number is the flag's bit
+abbrev pub ctrl_mode_of : Bool → CtrlMode
+ctrl_mode_of true = Master
+ctrl_mode_of false = Slave
+
+abbrev pub level_of : Bool → CsLevel
+level_of true = High
+level_of false = Low
+
+abbrev pub pin_of : Bool → CsPin
+pin_of true = Cs1
+pin_of false = Cs0
+
+abbrev pub polarity_of : Bool → Polarity
+polarity_of true = IdleHigh
+polarity_of false = IdleLow
+
+abbrev pub phase_of : Bool → Phase
+phase_of true = CaptureOnSecondTransition
+phase_of false = CaptureOnFirstTransition

@@ -28,7 +28,7 @@ impl Config {
     pub fn set_ctrl_mode(self, mode: CtrlMode) -> Self
         ensures { result.0 ≡ set_field 1 1 (ctrl_mode_bits mode) self.0 }
     {
-        Self((self.0 & !(0x1 << 1)) | ((mode.bits() & 0x1) << 1))
+        Self((self.0 & !(0x1 << 1)) | ((mode as u32 & 0x1) << 1))
     }
 
     // Enable the controller (CTRL_EN, bit 0).
@@ -125,42 +125,42 @@ impl TransferConfig {
     pub fn set_cs_level(self, level: CsLevel) -> Self
         ensures { result.0 ≡ set_field 7 1 (cs_level_bits level) self.0 }
     {
-        Self((self.0 & !(0x1 << 7)) | ((level.bits() & 0x1) << 7))
+        Self((self.0 & !(0x1 << 7)) | ((level as u32 & 0x1) << 7))
     }
 
     // Set the chip-select control mode (CS_CTL_SEL, bit 6).
     pub fn set_cs_ctrl_mode(self, mode: CsCtrlMode) -> Self
         ensures { result.0 ≡ set_field 6 1 (cs_ctrl_mode_bits mode) self.0 }
     {
-        Self((self.0 & !(0x1 << 6)) | ((mode.bits() & 0x1) << 6))
+        Self((self.0 & !(0x1 << 6)) | ((mode as u32 & 0x1) << 6))
     }
 
     // Set the chip-select pin (CS_NUM, bits 4 to 5).
     pub fn set_cs_pin_num(self, num: CsPin) -> Self
         ensures { result.0 ≡ set_field 4 2 (cs_pin_bits num) self.0 }
     {
-        Self((self.0 & !(0x3 << 4)) | ((num.bits() & 0x3) << 4))
+        Self((self.0 & !(0x3 << 4)) | ((num as u32 & 0x3) << 4))
     }
 
     // Set the chip-select polarity (CS_POL, bit 2).
     pub fn set_cs_pol(self, pol: Polarity) -> Self
         ensures { result.0 ≡ set_field 2 1 (polarity_bits pol) self.0 }
     {
-        Self((self.0 & !(0x1 << 2)) | ((pol.bits() & 0x1) << 2))
+        Self((self.0 & !(0x1 << 2)) | ((pol as u32 & 0x1) << 2))
     }
 
     // Set the clock polarity (CPOL, bit 1).
     pub fn set_clk_pol(self, pol: Polarity) -> Self
         ensures { result.0 ≡ set_field 1 1 (polarity_bits pol) self.0 }
     {
-        Self((self.0 & !(0x1 << 1)) | ((pol.bits() & 0x1) << 1))
+        Self((self.0 & !(0x1 << 1)) | ((pol as u32 & 0x1) << 1))
     }
 
     // Set the clock phase (CPHA, bit 0).
     pub fn set_clk_pha(self, pha: Phase) -> Self
         ensures { result.0 ≡ set_field 0 1 (phase_bits pha) self.0 }
     {
-        Self((self.0 & !(0x1 << 0)) | ((pha.bits() & 0x1) << 0))
+        Self((self.0 & !(0x1 << 0)) | ((pha as u32 & 0x1) << 0))
     }
 }
 
@@ -253,7 +253,7 @@ impl ClkConfig {
     pub fn set_clock_divider_selection(self, sel: ClockDivSel) -> Self
         ensures { result.0 ≡ set_field 12 1 (clock_div_sel_bits sel) self.0 }
     {
-        Self((self.0 & !(0x1 << 12)) | ((sel.bits() & 0x1) << 12))
+        Self((self.0 & !(0x1 << 12)) | ((sel as u32 & 0x1) << 12))
     }
 
     // Set clock divider 1 (CKDIV1, bits 8 to 11).
@@ -361,6 +361,6 @@ impl BitModeTransConfig {
     pub fn set_bus_mode(self, mode: BusMode) -> Self
         ensures { result.0 ≡ set_field 0 2 (bus_mode_bits mode) self.0 }
     {
-        Self((self.0 & !(0x3 << 0)) | ((mode.bits() & 0x3) << 0))
+        Self((self.0 & !(0x3 << 0)) | ((mode as u32 & 0x3) << 0))
     }
 }

@@ -1,152 +1,116 @@
 // Settings that a field holds: the enums of qspi/register.rs, and Polarity and Phase of embedded-hal 1.0.
+// A variant's number is what the field holds for it, and a flag names the variant of its bit.
 ghost use Rattle.std.specs.Prelude.{◌≡◌};
-ghost use Rattle.registers.specs.Setting.{ctrl_mode_bits, cs_level_bits, cs_ctrl_mode_bits, cs_pin_bits, clock_div_sel_bits, bus_mode_bits, polarity_bits, phase_bits};
+ghost use Rattle.registers.specs.Setting.{ctrl_mode_of, level_of, pin_of, polarity_of, phase_of};
 
 // Controller mode.
-#[derive(Clone, Copy)]
+#[derive(Clone, Copy, Debug, PartialEq, Eq)]
 pub enum CtrlMode {
-    Slave,
-    Master,
-}
-
-impl CtrlMode {
-    pub fn bits(self) -> u32
-        ensures { result ≡ ctrl_mode_bits self }
-    {
-        match self {
-            CtrlMode::Slave => 0,
-            CtrlMode::Master => 1,
-        }
-    }
+    Slave = 0,
+    Master = 1,
 }
 
 // Chip-select level.
-#[derive(Clone, Copy)]
+#[derive(Clone, Copy, Debug, PartialEq, Eq)]
 pub enum CsLevel {
-    Low,
-    High,
-}
-
-impl CsLevel {
-    pub fn bits(self) -> u32
-        ensures { result ≡ cs_level_bits self }
-    {
-        match self {
-            CsLevel::Low => 0,
-            CsLevel::High => 1,
-        }
-    }
+    Low = 0,
+    High = 1,
 }
 
 // Who controls the chip select.
-#[derive(Clone, Copy)]
+#[derive(Clone, Copy, Debug, PartialEq, Eq)]
 pub enum CsCtrlMode {
-    SpiController,
-    Software,
-}
-
-impl CsCtrlMode {
-    pub fn bits(self) -> u32
-        ensures { result ≡ cs_ctrl_mode_bits self }
-    {
-        match self {
-            CsCtrlMode::SpiController => 0,
-            CsCtrlMode::Software => 1,
-        }
-    }
+    SpiController = 0,
+    Software = 1,
 }
 
 // Chip-select pin of the external device.
-#[derive(Clone, Copy)]
+#[derive(Clone, Copy, Debug, PartialEq, Eq)]
 pub enum CsPin {
-    Cs0,
-    Cs1,
-}
-
-impl CsPin {
-    pub fn bits(self) -> u32
-        ensures { result ≡ cs_pin_bits self }
-    {
-        match self {
-            CsPin::Cs0 => 0,
-            CsPin::Cs1 => 1,
-        }
-    }
+    Cs0 = 0,
+    Cs1 = 1,
 }
 
 // Clock divider in use: CKDIV1 or CKDIV2.
-#[derive(Clone, Copy)]
+#[derive(Clone, Copy, Debug, PartialEq, Eq)]
 pub enum ClockDivSel {
-    Div1,
-    Div2,
-}
-
-impl ClockDivSel {
-    pub fn bits(self) -> u32
-        ensures { result ≡ clock_div_sel_bits self }
-    {
-        match self {
-            ClockDivSel::Div1 => 0,
-            ClockDivSel::Div2 => 1,
-        }
-    }
+    Div1 = 0,
+    Div2 = 1,
 }
 
 // Bus mode.
-#[derive(Clone, Copy)]
+#[derive(Clone, Copy, Debug, PartialEq, Eq)]
 pub enum BusMode {
     // Bytes, for standard, dual and quad SPI.
-    StandardBytes,
+    StandardBytes = 0,
     // Bits, for three-wire mode.
-    QuadBits,
+    QuadBits = 2,
     // Bits, for standard SPI.
-    StandardBits,
-}
-
-impl BusMode {
-    pub fn bits(self) -> u32
-        ensures { result ≡ bus_mode_bits self }
-    {
-        match self {
-            BusMode::StandardBytes => 0,
-            BusMode::QuadBits => 2,
-            BusMode::StandardBits => 3,
-        }
-    }
+    StandardBits = 3,
 }
 
 // Level of an idle line.
-#[derive(Clone, Copy)]
+#[derive(Clone, Copy, Debug, PartialEq, Eq)]
 pub enum Polarity {
-    IdleLow,
-    IdleHigh,
+    IdleLow = 0,
+    IdleHigh = 1,
 }
 
-impl Polarity {
-    pub fn bits(self) -> u32
-        ensures { result ≡ polarity_bits self }
-    {
-        match self {
-            Polarity::IdleLow => 0,
-            Polarity::IdleHigh => 1,
+// Clock transition on which data is captured.
+#[derive(Clone, Copy, Debug, PartialEq, Eq)]
+pub enum Phase {
+    CaptureOnFirstTransition = 0,
+    CaptureOnSecondTransition = 1,
+}
+
+impl From<bool> for CtrlMode {
+    ghost from_gives = { λ master mode. mode ≡ ctrl_mode_of master };
+
+    fn from(master: bool) -> Self {
+        if master {
+            CtrlMode::Master
+        } else {
+            CtrlMode::Slave
         }
     }
 }
 
-// Clock transition on which data is captured.
-#[derive(Clone, Copy)]
-pub enum Phase {
-    CaptureOnFirstTransition,
-    CaptureOnSecondTransition,
+impl From<bool> for CsLevel {
+    ghost from_gives = { λ high level. level ≡ level_of high };
+
+    fn from(high: bool) -> Self {
+        if high { CsLevel::High } else { CsLevel::Low }
+    }
 }
 
-impl Phase {
-    pub fn bits(self) -> u32
-        ensures { result ≡ phase_bits self }
-    {
-        match self {
-            Phase::CaptureOnFirstTransition => 0,
-            Phase::CaptureOnSecondTransition => 1,
+impl From<bool> for CsPin {
+    ghost from_gives = { λ second pin. pin ≡ pin_of second };
+
+    fn from(second: bool) -> Self {
+        if second { CsPin::Cs1 } else { CsPin::Cs0 }
+    }
+}
+
+impl From<bool> for Polarity {
+    ghost from_gives = { λ high polarity. polarity ≡ polarity_of high };
+
+    fn from(idle_high: bool) -> Self {
+        if idle_high {
+            Polarity::IdleHigh
+        } else {
+            Polarity::IdleLow
+        }
+    }
+}
+
+impl From<bool> for Phase {
+    ghost from_gives = { λ second phase. phase ≡ phase_of second };
+
+    fn from(second_transition: bool) -> Self {
+        if second_transition {
+            Phase::CaptureOnSecondTransition
+        } else {
+            Phase::CaptureOnFirstTransition
         }
     }
 }

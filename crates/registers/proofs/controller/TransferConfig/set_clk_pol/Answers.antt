@@ -1,6 +1,6 @@
 use borrow.Author.Rules.{rules}
-use Rattle.registers.proofs.Field.{shifted_in}
+use Rattle.registers.proofs.Field.{cast_in}
 use Rattle.registers.proofs.controller.TransferConfig.set_clk_pol.Goals as goal
 
 pub returns : goal.returns
-returns c = rw (← c.bits.ensures) (shifted_in 30 1 1 _ _ (search rules))
+returns c = cast_in 30 1 1 _ (search rules) (search rules)
