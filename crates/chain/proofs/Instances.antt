@@ -8,7 +8,6 @@ use Rattle.model.specs.Tally.{plus, poll_tally, tally_event, tally_of}
 use Rattle.model.specs.Steps.{then, finally, change, wait_for}
 use Rattle.model.specs.Run.{entered, answered, poll, run}
 use Rattle.model.specs.State.{room_of, ran, onward, advance, called}
-use Rattle.config.specs.Config.{mode_at}
 use Rattle.qspi.specs.Phases.{reset_fifos, program_transfer, start_transfer, begin_transfer, moved, moved_all, paced, gots, tx_phase, rx_phase}
 use Rattle.mode.specs.Mode.{lines, qpi_mode, mode_changes, work_mode_steps}
 use Rattle.transfer.specs.Transfer.{transfer_steps, part_steps, parts, in_place_steps}
@@ -20,7 +19,7 @@ use Rattle.chain.specs.Laws.{UsedFields, HypothesesMet}
 
 computed : HypothesesMet × UsedFields
 unfolding get_field set_field head_of value_of answer_of answers_of receive received words stored plus poll_tally tally_event tally_of then finally change wait_for
-    entered answered poll run room_of ran onward advance called mode_at reset_fifos program_transfer start_transfer begin_transfer moved moved_all paced gots
+    entered answered poll run room_of ran onward advance called reset_fifos program_transfer start_transfer begin_transfer moved moved_all paced gots
     tx_phase rx_phase lines qpi_mode mode_changes work_mode_steps framed quad_mode standard_mode quad_start quad_steps window read_quad_windows write_quad_windows out_of_range
     extents_fault windows_fault record_fault records_in along checked record_steps chain_steps refusal outcome write_window transfer_windows transfer_steps
     in_place_steps parts part_steps delay_cycles

@@ -1,12 +1,11 @@
 -- A chain as steps: each record gets log, answers and memory as the last left them (document 01, "Chain and sheet").
-use Rattle.std.specs.Prelude.{Bool, List, [], ◌∷◌, ℕ, ◌/◌, get_or}
+use Rattle.std.specs.Prelude.{Bool, List, [], ◌∷◌, ℕ, ◌/◌, get_or, Option, Some, None}
 use Rattle.model.specs.Wait.Cause.{start}
 use Rattle.model.specs.Steps.{Steps, then, pause, wait_for}
 use Rattle.model.specs.Steps.End.{done}
 use Rattle.model.specs.Steps.Steps.{end}
 use Rattle.config.specs.Config.{work_mode_of}
-use Rattle.config.specs.declared.config.WorkModeFound.{WorkModeFound}
-use Rattle.config.specs.declared.config.WorkModeFound.TheVariants.{Mode, Unknown}
+use Rattle.config.specs.declared.config.WorkMode.{WorkMode}
 use Rattle.qspi.specs.Phases.{rx_phase}
 use Rattle.mode.specs.Mode.{work_mode_steps}
 use Rattle.transfer.specs.Transfer.{in_place_steps}
@@ -18,9 +17,9 @@ unfoldable pub delay_cycles : ℕ → ℕ
 delay_cycles ns = ns / 2
 
 -- the mode of a number; the check lets no other number through
-abbrev pub mode_steps : Bool → WorkModeFound → Steps
-mode_steps qpi (Mode mode) = work_mode_steps qpi mode
-mode_steps qpi Unknown = end done
+abbrev pub mode_steps : Bool → Option WorkMode → Steps
+mode_steps qpi (Some mode) = work_mode_steps qpi mode
+mode_steps qpi None = end done
 
 -- the steps of each kind, by the fields of a record; there is no kind 0
 abbrev pub kind_steps : ℕ → Bool → (ℕ → ℕ) → List Steps

@@ -6,7 +6,7 @@ ghost use Rattle.access.specs.Does.{Sound, Does, Runs};
 ghost use Rattle.chain.specs.Chain.{delay_cycles, mode_steps, record_steps};
 
 use access::{Act, Progress};
-use config::{WorkMode, WorkModeFound};
+use config::WorkMode;
 use windows::Span;
 
 // The cycles of a delay in nanoseconds.
@@ -38,12 +38,9 @@ fn set_mode(
     requires limit_nonzero { 0 < limit }
     ensures { Does (mode_steps qpi (work_mode_of mode)) limit answers.now progress log.old result log.new }
 {
-    let found = WorkMode::from_number(mode);
-    match found {
-        WorkModeFound::Mode(known) => {
-            mode::set_work_mode(limit, qpi, progress, log, answers, known)
-        }
-        WorkModeFound::Unknown => progress,
+    match WorkMode::from_number(mode) {
+        Some(known) => mode::set_work_mode(limit, qpi, progress, log, answers, known),
+        None => progress,
     }
 }
 

@@ -4,12 +4,11 @@ use mathlib.Core.Path.{◌≡◌, refl, ap}
 use Prim.Native.Nat.{ℕ, ◌+◌, ◌*◌, ◌/◌, ◌%◌, ◌≤◌, ◌<◌}
 use lib.Arith.{digits_div, digits_mod}
 use lib.Dec.{ltb}
+use Rattle.std.specs.Prelude.{Option, Some, None}
 use borrow.Author.Tests.{le-ltb, ltb-true}
 use native.Mathlib.Nat.{le-div_iff_mul-le, zero-div}
 use native.Mathlib.Omega.{arith}
 use Rattle.clock.specs.declared.DividerSelect.TheVariants.{Cdr1, Cdr2}
-use Rattle.clock.specs.declared.Sck.{Sck}
-use Rattle.clock.specs.declared.Sck.TheVariants.{Rate, NoDivider}
 use Rattle.clock.specs.Answer.{Answer, answer, too_large, sck}
 use Rattle.clock.specs.Candidate.{divider_at, factor_at, candidate, rate}
 use Rattle.clock.specs.Choose.{NoneEligible}
@@ -41,11 +40,11 @@ unfolding factor_at
 candidate_rate pll i h = rw (le-ltb 31 (i / 272) (omega arith), divider_fits (i % 272))
 
 -- number and rate leave nothing open of an answer
-pub answer_determines : (a b : Sck) → answer a ≡ answer b → a ≡ b
-answer_determines (Rate x) (Rate y) e = ap Rate (ap (λ (r : Answer). r.hz) e)
-answer_determines (Rate x) NoDivider e = let n = ap (λ (r : Answer). r.number) e in absurd (omega arith)
-answer_determines NoDivider (Rate y) e = let n = ap (λ (r : Answer). r.number) e in absurd (omega arith)
-answer_determines NoDivider NoDivider e = refl
+pub answer_determines : (a b : Option ℕ) → answer a ≡ answer b → a ≡ b
+answer_determines (Some x) (Some y) e = ap Some (ap (λ (r : Answer). r.hz) e)
+answer_determines (Some x) None e = let n = ap (λ (r : Answer). r.number) e in absurd (omega arith)
+answer_determines None (Some y) e = let n = ap (λ (r : Answer). r.number) e in absurd (omega arith)
+answer_determines None None e = refl
 
 -- from 3,200,000,032 Hz on, and at 0 Hz, no module clock is eligible
 pub beyond_any_clock : BeyondAnyClock

@@ -1,19 +1,17 @@
 -- What `actual_sck` answers: document 01's number and rate, of every divider.
-use Rattle.std.specs.Prelude.{Bool, false, cond, ◌||◌, ℕ, ◌/◌, ltb}
+use Rattle.std.specs.Prelude.{Bool, false, cond, ◌||◌, ℕ, ◌/◌, ltb, Option, Some, None}
 use Rattle.clock.specs.declared.DividerSelect.{DividerSelect}
 use Rattle.clock.specs.declared.DividerSelect.TheVariants.{Cdr1, Cdr2}
-use Rattle.clock.specs.declared.Sck.{Sck}
-use Rattle.clock.specs.declared.Sck.TheVariants.{Rate, NoDivider}
 use Rattle.clock.specs.Candidate.{module_clock, factor_of}
 
 pub record Answer : Type 0 where
   pub number : ℕ
   pub hz : ℕ
 
--- the number and the rate of each case of the enum
-abbrev pub answer : Sck → Answer
-answer (Rate hz) = record { number = 0; hz = hz }
-answer NoDivider = record { number = 12; hz = 0 }
+-- the number and the rate of each case: a rate, or no divider
+abbrev pub answer : Option ℕ → Answer
+answer (Some hz) = record { number = 0; hz = hz }
+answer None = record { number = 12; hz = 0 }
 
 -- Cdr1 above 15
 abbrev pub too_large : DividerSelect → Bool

@@ -1,7 +1,7 @@
 // The clock of the QSPI bus: document 01, "Clock".
 #![tactic(auto)]
 
-ghost use Rattle.std.specs.Prelude.{◌≡◌, ◌+◌, ◌-◌, ◌*◌, ◌<◌, min};
+ghost use Rattle.std.specs.Prelude.{◌≡◌, ◌+◌, ◌*◌, ◌<◌};
 ghost use Rattle.clock.specs.Candidate.{candidate, factor_at, divider_at, in_range};
 ghost use Rattle.clock.specs.Skip.{next_place};
 ghost use Rattle.clock.specs.Rank.{choice, cost};
@@ -19,39 +19,26 @@ const PLACES: u32 = 272;
 
 const CANDIDATES: u64 = 8_704;
 
-// The rank of no candidate: 2^33 × 8,704.
-const NO_RANK: u64 = 74_766_790_688_768;
+// The rank of the fallback, candidate 0 at a cost above that of any rate. The scan starts with it: no Option to test.
+const FALLBACK: u64 = (1 << 33) * CANDIDATES;
 
-#[derive(Clone, Copy)]
+#[derive(Clone, Copy, Debug, PartialEq, Eq)]
 pub enum DividerSelect {
     Cdr1(u8),
     Cdr2(u8),
 }
 
-#[derive(Clone, Copy)]
+#[derive(Clone, Copy, Debug, PartialEq, Eq)]
 pub struct Choice {
     pub mod_div: u8,
     pub divider: DividerSelect,
-}
-
-// The rate that a choice of dividers gives.
-#[derive(Clone, Copy)]
-pub enum Sck {
-    Rate(u32),
-    NoDivider,
 }
 
 // The target of an opening.
 pub fn clamp_target(target: u32) -> u32
     ensures { result ≡ clamped target }
 {
-    if target < MIN_HZ {
-        return MIN_HZ;
-    }
-    if target > MAX_HZ {
-        return MAX_HZ;
-    }
-    target
+    target.clamp(MIN_HZ, MAX_HZ)
 }
 
 fn eligible(clock: u32) -> bool
@@ -73,6 +60,7 @@ fn divider_at(place: u32) -> DividerSelect
 }
 
 // What the divider at a place divides the module clock by.
+#[tactic(auto, unfolding(crate::specs::Candidate::factor_at))]
 fn factor(place: u32) -> u32
     requires { place < 272 }
     ensures { result ≡ factor_at place }
@@ -95,12 +83,6 @@ fn cost_of(hz: u32, target: u32) -> u64
     }
 }
 
-fn least(a: u64, b: u64) -> u64
-    ensures { result ≡ min a b }
-{
-    if b < a { b } else { a }
-}
-
 // The rank of an eligible candidate: by cost, and at one cost by the scan index.
 fn rank_of(hz: u32, target: u32, index: u64) -> u64
     requires { index < 8_704 }
@@ -121,6 +103,7 @@ fn candidate_at(index: u32) -> Choice
 }
 
 // The next place to look at: after a rate that is not above the target, the rest of Cdr1, or of Cdr2, is no nearer.
+#[tactic(auto, unfolding(crate::specs::Skip::next_place))]
 fn next_place(place: u32, hz: u32, target: u32) -> u32
     requires { place < 272 }
     ensures { result ≡ next_place place hz target }
@@ -136,7 +119,7 @@ pub fn select_clock(pll: u32, target: u32) -> Choice
     ensures { result ≡ choice pll target }
 {
     let mut m: u32 = 0;
-    let mut best = NO_RANK;
+    let mut best = FALLBACK;
     let found = 'modules: loop {
         if m == MODULES {
             break best;
@@ -149,7 +132,7 @@ pub fn select_clock(pll: u32, target: u32) -> Choice
                     break best;
                 }
                 let hz = clock / factor(place);
-                best = least(best, rank_of(hz, target, (m * PLACES + place) as u64));
+                best = best.min(rank_of(hz, target, (m * PLACES + place) as u64));
                 if best < CANDIDATES {
                     break 'modules best;
                 }
@@ -161,23 +144,18 @@ pub fn select_clock(pll: u32, target: u32) -> Choice
     candidate_at((found % CANDIDATES) as u32)
 }
 
-// The SCK rate that dividers give.
-pub fn actual_sck(pll: u32, mod_div: u8, divider: DividerSelect) -> Sck
+// The SCK rate that dividers give, if they are any.
+pub fn actual_sck(pll: u32, mod_div: u8, divider: DividerSelect) -> Option<u32>
     ensures { answer result ≡ sck pll mod_div divider }
 {
     if mod_div > 31 {
-        return Sck::NoDivider;
+        return None;
     }
     let clock = pll / (mod_div as u32 + 1);
     match divider {
-        DividerSelect::Cdr1(c) => {
-            if c > 15 {
-                Sck::NoDivider
-            } else {
-                Sck::Rate(clock / factor(c as u32))
-            }
-        }
-        DividerSelect::Cdr2(c) => Sck::Rate(clock / factor(16 + c as u32)),
+        DividerSelect::Cdr1(c) if c > 15 => None,
+        DividerSelect::Cdr1(c) => Some(clock / factor(c as u32)),
+        DividerSelect::Cdr2(c) => Some(clock / factor(16 + c as u32)),
     }
 }
 
@@ -185,7 +163,7 @@ pub fn actual_sck(pll: u32, mod_div: u8, divider: DividerSelect) -> Sck
 pub fn periods_for(ns: u32, hz: u32) -> u64
     ensures { result ≡ periods ns hz }
 {
-    (ns as u64 * hz as u64 + 999_999_999) / 1_000_000_000
+    (ns as u64 * hz as u64).div_ceil(1_000_000_000)
 }
 
 // The dummy bytes of a quad read.
@@ -193,12 +171,7 @@ pub fn dummy_bytes_for(hz: u32, tclqv_ns: u32, margin: u8) -> u8
     ensures { result ≡ dummies hz tclqv_ns margin }
 {
     let bits = periods_for(tclqv_ns, hz);
-    let total = (bits + 7) / 8 % 256 + margin as u64;
-    if total > 255 {
-        return 255;
-    }
-    if total > 0 {
-        return total as u8;
-    }
-    if bits == 0 { 0 } else { 1 }
+    let bytes = (bits.div_ceil(8) % 256) as u8;
+    let total = bytes.saturating_add(margin);
+    if bits == 0 { total } else { total.max(1) }
 }

@@ -1,14 +1,11 @@
 -- The configurations of config.rs, and the work modes by number.
-use Rattle.std.specs.Prelude.{Bool, true, false, List, [], ◌∷◌, ℕ, zero, suc}
+use Rattle.std.specs.Prelude.{Bool, true, false, List, [], ◌∷◌, ℕ, Option, None, Some, slice_get}
 use Rattle.registers.specs.declared.setting.CtrlMode.TheVariants.{Master}
 use Rattle.registers.specs.declared.setting.Polarity.TheVariants.{IdleHigh}
 use Rattle.registers.specs.declared.setting.CsLevel.TheVariants.{Low}
 use Rattle.registers.specs.declared.setting.CsPin.TheVariants.{Cs0}
 use Rattle.config.specs.declared.config.WorkMode.{WorkMode}
 use Rattle.config.specs.declared.config.WorkMode.TheVariants.{Standard, ThreeWire, Dual, DualIO, Quad, QuadIO, Qpi}
-use Rattle.config.specs.declared.config.WorkModeFound.{WorkModeFound}
-use Rattle.config.specs.declared.config.WorkModeFound.TheVariants.{Mode, Unknown}
-use Rattle.config.specs.declared.config.CsConfig.TheVariants.{None, Some}
 use Rattle.config.specs.declared.config.QspiConfig.{QspiConfig}
 use Rattle.config.specs.Spi.{mode0}
 
@@ -22,7 +19,7 @@ default_config =
       work_mode = Standard;
       bit_mode_en = false;
       lsb_first = false;
-      cs_config = Some IdleHigh Low Cs0;
+      cs_config = Some (record { polarity = IdleHigh; level = Low; pin = Cs0 });
     }
 
 -- a single-line SPI-NOR bus
@@ -56,12 +53,6 @@ is_qpi Qpi = true
 abbrev pub work_modes : List WorkMode
 work_modes = Standard ∷ ThreeWire ∷ Dual ∷ DualIO ∷ Quad ∷ QuadIO ∷ Qpi ∷ []
 
--- the mode at a place of a list, counted from 0
-unfoldable pub mode_at : List WorkMode → ℕ → WorkModeFound
-mode_at [] n = Unknown
-mode_at (m ∷ ms) zero = Mode m
-mode_at (m ∷ ms) (suc n) = mode_at ms n
-
 -- the mode of a number, 0 to 6
-abbrev pub work_mode_of : ℕ → WorkModeFound
-work_mode_of = mode_at work_modes
+abbrev pub work_mode_of : ℕ → Option WorkMode
+work_mode_of = slice_get work_modes

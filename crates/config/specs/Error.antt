@@ -1,9 +1,41 @@
--- Document 01's number of each error.
-use Rattle.std.specs.Prelude.{ℕ}
+-- Document 01's number and words of each error, and the number by which a call ends ("How a call ends").
+use Rattle.std.specs.Prelude.{ℕ, List, Result, Ok, Err, codes}
 use Rattle.config.specs.declared.error.QspiError.{QspiError}
-use Rattle.config.specs.declared.error.QspiError.TheVariants.{Timeout, Unsupported}
+use Rattle.config.specs.declared.error.QspiError.TheVariants.{Timeout, Unsupported, SpiMode, Instance, Qpi, Length, Limit}
+use Rattle.config.specs.declared.error.QspiError.TheVariants.{Chain, Window, Log, Answers, Divider, Sheet}
 
--- 1 timeout, 2 unsupported
+-- 1 to 13
 abbrev pub error_number : QspiError → ℕ
 error_number Timeout = 1
 error_number Unsupported = 2
+error_number SpiMode = 3
+error_number Instance = 4
+error_number Qpi = 5
+error_number Length = 6
+error_number Limit = 7
+error_number Chain = 8
+error_number Window = 9
+error_number Log = 10
+error_number Answers = 11
+error_number Divider = 12
+error_number Sheet = 13
+
+abbrev pub error_text : QspiError → List ℕ
+error_text Timeout = codes "timeout"
+error_text Unsupported = codes "unsupported"
+error_text SpiMode = codes "SPI mode 1 or 3"
+error_text Instance = codes "instance above 3"
+error_text Qpi = codes "QPI at opening on a chip without it"
+error_text Length = codes "length above FFFFFF hex in one phase"
+error_text Limit = codes "limit 0"
+error_text Chain = codes "chain"
+error_text Window = codes "window outside memory"
+error_text Log = codes "log used up"
+error_text Answers = codes "answers used up"
+error_text Divider = codes "divider"
+error_text Sheet = codes "sheet"
+
+-- 0 done, else the error's number
+abbrev pub ended_number : Result Unit QspiError → ℕ
+ended_number (Ok done) = 0
+ended_number (Err error) = error_number error

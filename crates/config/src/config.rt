@@ -6,7 +6,7 @@ use super::spi;
 use super::spi::Mode;
 use registers::{CsLevel, CsPin, CtrlMode, Polarity};
 
-#[derive(Clone, Copy)]
+#[derive(Clone, Copy, Debug, PartialEq, Eq)]
 pub struct QspiConfig {
     // Target rate in Hz.
     pub freq: u32,
@@ -16,10 +16,10 @@ pub struct QspiConfig {
     pub work_mode: WorkMode,
     pub bit_mode_en: bool,
     pub lsb_first: bool,
-    pub cs_config: CsConfig,
+    pub cs_config: Option<CsConfig>,
 }
 
-#[derive(Clone, Copy)]
+#[derive(Clone, Copy, Debug, PartialEq, Eq)]
 pub enum WorkMode {
     // 1-bit data transfer.
     Standard,
@@ -48,55 +48,33 @@ const WORK_MODES: [WorkMode; 7] = [
     WorkMode::Qpi,
 ];
 
-// The work mode of a number, if it has one.
-#[derive(Clone, Copy)]
-pub enum WorkModeFound {
-    Mode(WorkMode),
-    Unknown,
-}
-
 impl WorkMode {
     pub fn is_qpi(self) -> bool
         ensures { result ≡ is_qpi self }
     {
-        match self {
-            WorkMode::Standard => false,
-            WorkMode::ThreeWire => false,
-            WorkMode::Dual => false,
-            WorkMode::DualIO => false,
-            WorkMode::Quad => false,
-            WorkMode::QuadIO => false,
-            WorkMode::Qpi => true,
-        }
+        matches!(self, WorkMode::Qpi)
     }
 
     // The mode at a place in the order above, from 0.
-    pub fn from_number(n: u32) -> WorkModeFound
+    pub fn from_number(n: u32) -> Option<WorkMode>
         ensures { result ≡ work_mode_of n }
     {
-        if n < 7 {
-            WorkModeFound::Mode(WORK_MODES[n as usize])
-        } else {
-            WorkModeFound::Unknown
-        }
+        WORK_MODES.get(n as usize).copied()
     }
 }
 
-// The chip-select record, if there is one.
-#[derive(Clone, Copy)]
-pub enum CsConfig {
-    None,
-    Some {
-        polarity: Polarity,
-        level: CsLevel,
-        pin: CsPin,
-    },
+// The chip-select record.
+#[derive(Clone, Copy, Debug, PartialEq, Eq)]
+pub struct CsConfig {
+    pub polarity: Polarity,
+    pub level: CsLevel,
+    pub pin: CsPin,
 }
 
-impl QspiConfig {
-    pub fn default() -> Self
-        ensures { result ≡ default_config }
-    {
+impl Default for QspiConfig {
+    ghost is_default = { λ config. config ≡ default_config };
+
+    fn default() -> Self {
         Self {
             freq: 10_000_000,
             mode: spi::MODE_0,
@@ -104,14 +82,16 @@ impl QspiConfig {
             work_mode: WorkMode::Standard,
             bit_mode_en: false,
             lsb_first: false,
-            cs_config: CsConfig::Some {
+            cs_config: Some(CsConfig {
                 polarity: Polarity::IdleHigh,
                 level: CsLevel::Low,
                 pin: CsPin::Cs0,
-            },
+            }),
         }
     }
+}
 
+impl QspiConfig {
     // Controller configuration for a single-line SPI-NOR bus.
     pub fn nor_flash() -> Self
         ensures { result ≡ nor_flash }
@@ -123,7 +103,7 @@ impl QspiConfig {
             work_mode: WorkMode::Standard,
             lsb_first: false,
             bit_mode_en: false,
-            cs_config: CsConfig::None,
+            cs_config: None,
         }
     }
 

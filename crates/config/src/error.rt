@@ -1,15 +1,38 @@
-// Bus errors, from error.rs.
-ghost use Rattle.std.specs.Prelude.{◌≡◌};
-ghost use Rattle.config.specs.Error.{error_number};
+// Bus errors: those of error.rs, and what else document 01 refuses ("How a call ends").
+ghost use Rattle.std.specs.Prelude.{◌≡◌, Some};
+ghost use Rattle.config.specs.Error.{error_number, error_text, ended_number};
 
-use super::number;
+use std::fmt;
 
-#[derive(Clone, Copy)]
+// Each has document 01's number.
+#[derive(Clone, Copy, Debug, PartialEq, Eq)]
 pub enum QspiError {
     // Timeout waiting for hardware.
-    Timeout,
+    Timeout = 1,
     // The requested mode is not implemented by this controller revision.
-    Unsupported,
+    Unsupported = 2,
+    // SPI mode 1 or 3.
+    SpiMode = 3,
+    // Instance above 3.
+    Instance = 4,
+    // QPI at opening on a chip without it.
+    Qpi = 5,
+    // Length above FFFFFF hex in one phase.
+    Length = 6,
+    // Limit 0.
+    Limit = 7,
+    // A chain that is none.
+    Chain = 8,
+    // Window outside memory.
+    Window = 9,
+    // Log used up.
+    Log = 10,
+    // Answers used up.
+    Answers = 11,
+    // A divider that is none.
+    Divider = 12,
+    // A sheet that is none.
+    Sheet = 13,
 }
 
 impl QspiError {
@@ -17,9 +40,46 @@ impl QspiError {
     pub fn number(self) -> u32
         ensures { result ≡ error_number self }
     {
-        match self {
-            QspiError::Timeout => number::TIMEOUT,
-            QspiError::Unsupported => number::UNSUPPORTED,
-        }
+        self as u32
+    }
+}
+
+impl From<QspiError> for u32 {
+    ghost from_gives = { λ error number. number ≡ error_number error };
+
+    fn from(error: QspiError) -> u32 {
+        error.number()
+    }
+}
+
+impl fmt::Display for QspiError {
+    ghost output = { λ error. Some (error_text error) };
+
+    fn fmt<W: fmt::Write>(&self, f: &mut fmt::Formatter<W>) -> fmt::Result {
+        f.write_str(match self {
+            QspiError::Timeout => "timeout",
+            QspiError::Unsupported => "unsupported",
+            QspiError::SpiMode => "SPI mode 1 or 3",
+            QspiError::Instance => "instance above 3",
+            QspiError::Qpi => "QPI at opening on a chip without it",
+            QspiError::Length => "length above FFFFFF hex in one phase",
+            QspiError::Limit => "limit 0",
+            QspiError::Chain => "chain",
+            QspiError::Window => "window outside memory",
+            QspiError::Log => "log used up",
+            QspiError::Answers => "answers used up",
+            QspiError::Divider => "divider",
+            QspiError::Sheet => "sheet",
+        })
+    }
+}
+
+// The number by which a call ends: 0, or that of its error.
+pub fn number_of(ended: Result<(), QspiError>) -> u32
+    ensures { result ≡ ended_number ended }
+{
+    match ended {
+        Ok(()) => 0,
+        Err(error) => error.number(),
     }
 }

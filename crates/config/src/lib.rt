@@ -6,6 +6,6 @@ pub mod error;
 pub mod number;
 pub mod spi;
 
-pub use config::{CsConfig, QspiConfig, WorkMode, WorkModeFound};
-pub use error::QspiError;
+pub use config::{CsConfig, QspiConfig, WorkMode};
+pub use error::{QspiError, number_of};
 pub use spi::Mode;

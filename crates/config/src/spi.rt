@@ -5,7 +5,7 @@ ghost use Rattle.config.specs.Spi.{supported};
 use registers::{Phase, Polarity};
 
 // SPI mode: the clock's idle level and the transition on which data is captured.
-#[derive(Clone, Copy)]
+#[derive(Clone, Copy, Debug, PartialEq, Eq)]
 pub struct Mode {
     pub polarity: Polarity,
     pub phase: Phase,
@@ -37,10 +37,6 @@ impl Mode {
     pub fn is_supported(self) -> bool
         ensures { result ≡ supported self }
     {
-        let phase = self.phase;
-        match phase {
-            Phase::CaptureOnFirstTransition => true,
-            Phase::CaptureOnSecondTransition => false,
-        }
+        self.phase == Phase::CaptureOnFirstTransition
     }
 }

@@ -8,7 +8,7 @@ use Rattle.model.specs.Steps.{Steps, then, change}
 use Rattle.registers.specs.Setting.{phase_bits, polarity_bits}
 use Rattle.config.specs.declared.spi.Mode.{Mode}
 use Rattle.config.specs.declared.config.CsConfig.{CsConfig}
-use Rattle.config.specs.declared.config.CsConfig.TheVariants.{None, Some}
+use Rattle.std.specs.Prelude.{Option, None, Some}
 use Rattle.config.specs.declared.config.WorkMode.{WorkMode}
 use Rattle.config.specs.declared.config.WorkMode.TheVariants.{Standard, ThreeWire, Dual, DualIO, Quad, QuadIO, Qpi}
 use Rattle.clock.specs.declared.DividerSelect.{DividerSelect}
@@ -33,11 +33,11 @@ abbrev format : Bool → (ℕ → ℕ) → Steps
 format lsb bits = change 0x008 (λ w. set_field 12 1 (cond lsb 1 0) (set_field 14 1 1 (bits w)))
 
 -- The code sets bit 8 first.
-pub formats : (mode : Mode) (cs : CsConfig) (lsb : Bool)
+pub formats : (mode : Mode) (cs : Option CsConfig) (lsb : Bool)
     → change_of (of.TheVariants.Transfer (transfer.TheVariants.Format mode.phase mode.polarity (cs_ctrl_mode cs) lsb)) ≡ transfer_format mode cs lsb
 unfolding transfer_format
 formats mode None lsb = ap (format lsb) (fun_ext (bit_8_first (below mode 1)))
-formats mode (Some polarity level pin) lsb = ap (format lsb) (fun_ext (bit_8_first (below mode 0)))
+formats mode (Some cs) lsb = ap (format lsb) (fun_ext (bit_8_first (below mode 0)))
 
 module _ (mode : WorkMode) (bits : Bool) where
   abbrev pub first : Steps

@@ -1,11 +1,10 @@
 -- What the code's choices stand for in the definitions.
-use Rattle.std.specs.Prelude.{Bool, true, false, not}
+use Rattle.std.specs.Prelude.{Bool, true, false, not, Option, None, Some}
 use Rattle.registers.specs.declared.setting.BusMode.{BusMode}
 use Rattle.registers.specs.declared.setting.BusMode.TheVariants.{StandardBytes, StandardBits}
 use Rattle.registers.specs.declared.setting.CsCtrlMode.{CsCtrlMode}
 use Rattle.registers.specs.declared.setting.CsCtrlMode.TheVariants.{SpiController, Software}
 use Rattle.config.specs.declared.config.CsConfig.{CsConfig}
-use Rattle.config.specs.declared.config.CsConfig.TheVariants.{None, Some}
 use Rattle.config.specs.declared.config.WorkMode.{WorkMode}
 use Rattle.config.specs.declared.config.WorkMode.TheVariants.{Standard, ThreeWire, Dual, DualIO, Quad, QuadIO, Qpi}
 use Rattle.clock.specs.declared.DividerSelect.{DividerSelect}
@@ -21,9 +20,9 @@ divider_in (Cdr1 c) = controller.TheVariants.Cdr1 c
 divider_in (Cdr2 c) = controller.TheVariants.Cdr2 c
 
 -- who controls the chip select: the software without a chip-select record
-abbrev pub cs_ctrl_mode : CsConfig → CsCtrlMode
+abbrev pub cs_ctrl_mode : Option CsConfig → CsCtrlMode
 cs_ctrl_mode None = Software
-cs_ctrl_mode (Some polarity level pin) = SpiController
+cs_ctrl_mode (Some cs) = SpiController
 
 -- bits or bytes
 abbrev pub bus_mode_in : Bool → BusMode

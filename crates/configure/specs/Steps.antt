@@ -1,5 +1,5 @@
 -- The parts of an opening's steps (document 01, "Steps"). Each register step is one change.
-use Rattle.std.specs.Prelude.{Bool, true, false, cond, ℕ, ◌+◌, leb}
+use Rattle.std.specs.Prelude.{Bool, true, false, cond, ℕ, ◌+◌, leb, Option, None, Some}
 use Rattle.model.specs.Field.{set_field}
 use Rattle.model.specs.Steps.{Steps, then, change, pause}
 use Rattle.model.specs.Steps.End.{done}
@@ -8,7 +8,6 @@ use Rattle.registers.specs.Setting.{ctrl_mode_bits, phase_bits, polarity_bits, c
 use Rattle.registers.specs.declared.setting.CtrlMode.{CtrlMode}
 use Rattle.config.specs.declared.spi.Mode.{Mode}
 use Rattle.config.specs.declared.config.CsConfig.{CsConfig}
-use Rattle.config.specs.declared.config.CsConfig.TheVariants.{None, Some}
 use Rattle.config.specs.declared.config.WorkMode.{WorkMode}
 use Rattle.config.specs.declared.config.WorkMode.TheVariants.{Standard, ThreeWire, Dual, DualIO, Quad, QuadIO, Qpi}
 use Rattle.config.specs.declared.config.QspiConfig.{QspiConfig}
@@ -37,18 +36,22 @@ controller_on mode =
     then (change 0x004 (λ w. set_field 7 1 1 (set_field 0 1 1 (set_field 31 1 0 (set_field 1 1 (ctrl_mode_bits mode) w))))) (change 0x010 (λ w. 0))
 
 -- set exactly if no chip-select record
-abbrev pub bit6 : CsConfig → ℕ
+abbrev pub bit6 : Option CsConfig → ℕ
 bit6 None = 1
-bit6 (Some polarity level pin) = 0
+bit6 (Some cs) = 0
 
--- with such a record 008 again for bits 2, 7 and 4 to 5
-unfoldable pub chip_select : CsConfig → Steps
+-- bits 2, 7 and 4 to 5 as a chip-select record has them
+abbrev pub selected : CsConfig → ℕ → ℕ
+selected cs w =
+    set_field 4 2 (cs_pin_bits cs.pin) (set_field 7 1 (cs_level_bits cs.level) (set_field 2 1 (polarity_bits cs.polarity) w))
+
+-- with such a record 008 again for these
+unfoldable pub chip_select : Option CsConfig → Steps
 chip_select None = end done
-chip_select (Some polarity level pin) =
-    change 0x008 (λ w. set_field 4 2 (cs_pin_bits pin) (set_field 7 1 (cs_level_bits level) (set_field 2 1 (polarity_bits polarity) w)))
+chip_select (Some cs) = change 0x008 (selected cs)
 
 -- 008 phase, polarity, bit 6, bits 8 and 14 set, bit 12 exactly if LSB first
-unfoldable pub transfer_format : Mode → CsConfig → Bool → Steps
+unfoldable pub transfer_format : Mode → Option CsConfig → Bool → Steps
 transfer_format mode cs lsb =
     change 0x008
     (λ w.
@@ -57,7 +60,7 @@ transfer_format mode cs lsb =
     (set_field 8 1 1 (set_field 6 1 (bit6 cs) (set_field 1 1 (polarity_bits mode.polarity) (set_field 0 1 (phase_bits mode.phase) w))))))
 
 -- 008; 008 again; 008 bit 13 set exactly if the clock is slow, bit 11 clear
-unfoldable pub transfer_config : Mode → CsConfig → Bool → Bool → Steps
+unfoldable pub transfer_config : Mode → Option CsConfig → Bool → Bool → Steps
 transfer_config mode cs lsb slow =
     then (transfer_format mode cs lsb) (then (chip_select cs) (change 0x008 (λ w. set_field 11 1 0 (set_field 13 1 (cond slow 1 0) w))))
 

@@ -55,16 +55,12 @@ fn enable_controller(
 }
 
 // Without a chip-select record the chip select is the software's.
-fn cs_ctrl_mode(cs_config: CsConfig) -> CsCtrlMode
+fn cs_ctrl_mode(cs_config: Option<CsConfig>) -> CsCtrlMode
     ensures { result ≡ cs_ctrl_mode cs_config }
 {
     match cs_config {
-        CsConfig::None => CsCtrlMode::Software,
-        CsConfig::Some {
-            polarity: _,
-            level: _,
-            pin: _,
-        } => CsCtrlMode::SpiController,
+        None => CsCtrlMode::Software,
+        Some(_) => CsCtrlMode::SpiController,
     }
 }
 
@@ -73,18 +69,20 @@ fn select_chip(
     progress: Progress,
     log: &mut [u32],
     answers: &[u32],
-    cs_config: CsConfig,
+    cs_config: Option<CsConfig>,
 ) -> Progress
     requires { Sound progress }
     ensures { Works (chip_select cs_config) answers.now progress log.old result log.new }
 {
     match cs_config {
-        CsConfig::None => progress,
-        CsConfig::Some {
-            polarity,
-            level,
-            pin,
-        } => {
+        None => progress,
+        Some(
+            CsConfig {
+                polarity,
+                level,
+                pin,
+            },
+        ) => {
             let select = Change::Transfer(Transfer::ChipSelect(polarity, level, pin));
             changes::modify(progress, log, answers, select)
         }
@@ -97,7 +95,7 @@ fn configure_transfer(
     log: &mut [u32],
     answers: &[u32],
     mode: Mode,
-    cs_config: CsConfig,
+    cs_config: Option<CsConfig>,
     lsb_first: bool,
     slow: bool,
 ) -> Progress

@@ -20,9 +20,16 @@ pub fn qspi_select_clock(pll: u32, target: u32, mod_div: &mut u32, kind: &mut u3
 pub fn qspi_actual_sck(pll: u32, mod_div: u32, kind: u32, count: u32, rate: &mut u32) -> u32
     ensures { Answered (sck_of pll mod_div kind count) result rate.new }
 {
-    let rated = clock_numbers::actual_sck(pll, mod_div, kind, count);
-    *rate = rated.hz;
-    rated.number
+    match clock_numbers::actual_sck(pll, mod_div, kind, count) {
+        Ok(hz) => {
+            *rate = hz;
+            0
+        }
+        Err(error) => {
+            *rate = 0;
+            error.number()
+        }
+    }
 }
 
 // The dummy bytes of a quad read at a rate.

@@ -5,6 +5,7 @@ ghost use Rattle.opening.specs.Call.{releases};
 ghost use Rattle.exports.specs.Calls.{Gives, GivesOpening};
 ghost use Rattle.std.specs.Prelude.{ℕ};
 
+use config_numbers::ConfigNumbers;
 use counts::tell;
 
 // Opens the bus of an instance and writes its rate, which is 0 unless the number is 0. `qpi`: the chip has QPI; `work_mode`: its number.
@@ -35,7 +36,7 @@ pub fn qspi_open(
 ) -> u32
     ensures { GivesOpening (config_of (work_mode_of work_mode) freq (mode_of idle_high second_transition) (ctrl_mode_of master) bit_mode lsb_first (cs_of cs cs_idle_high cs_high cs_1)) instance qpi (record { pll_fra0 = pll_hz; osc_24m = osc_hz }) limit answers.now log.old log.new sck_hz.new result entries.new taken.new polls.new longest.new }
 {
-    let found = config_numbers::config_of(
+    let numbers = ConfigNumbers {
         freq,
         idle_high,
         second_transition,
@@ -47,7 +48,8 @@ pub fn qspi_open(
         cs_idle_high,
         cs_high,
         cs_1,
-    );
+    };
+    let found = numbers.config();
     let opened = numbered::open_found(instance, qpi, limit, log, answers, found, pll_hz, osc_hz);
     *sck_hz = opened.sck_hz;
     tell(opened.progress, entries, taken, polls, longest)

@@ -5,10 +5,7 @@ use mathlib.Core.List.{List}
 use Prim.Native.Nat.{ℕ}
 use Rattle.config.specs.declared.config.QspiConfig.{QspiConfig}
 use Rattle.config.specs.declared.config.WorkMode.{WorkMode}
-use Rattle.config.specs.declared.config.WorkModeFound.{WorkModeFound}
-use Rattle.config.specs.declared.config.WorkModeFound.TheVariants as mode
-use Rattle.config_numbers.specs.declared.ConfigFound.{ConfigFound}
-use Rattle.config_numbers.specs.declared.ConfigFound.TheVariants.{Known, Unknown}
+use Rattle.std.specs.Prelude.{Option, Some, None}
 use Rattle.config_numbers.specs.Limit.{no_mode}
 use Rattle.access.specs.declared.progress.Progress.{Progress}
 use Rattle.access.specs.Of.{begun, with_number}
@@ -19,20 +16,20 @@ use Rattle.opening.specs.declared.Opened.{Opened}
 use Rattle.opening.specs.Call.{opening_of, Opens}
 use Rattle.numbered.specs.Calls.{CalledMode, OpensFound}
 
-module _ {found : WorkModeFound} {qpi : Bool} {limit : ℕ} {answers log : List ℕ} {p : Progress} where
-  pub called_mode : {work : WorkMode} {log' : List ℕ} → found ≡ mode.Mode work → Called (Call.set_work_mode qpi work) limit answers log p log'
+module _ {found : Option WorkMode} {qpi : Bool} {limit : ℕ} {answers log : List ℕ} {p : Progress} where
+  pub called_mode : {work : WorkMode} {log' : List ℕ} → found ≡ Some work → Called (Call.set_work_mode qpi work) limit answers log p log'
       → CalledMode found qpi limit answers log p log'
   called_mode e d = rw e (record { state = d.state })
 
-  pub called_none : {new : Progress} {n : ℕ} → found ≡ mode.Unknown → new ≡ begun → n ≡ no_mode limit → p ≡ with_number n new
+  pub called_none : {new : Progress} {n : ℕ} → found ≡ None → new ≡ begun → n ≡ no_mode limit → p ≡ with_number n new
       → CalledMode found qpi limit answers log p log
   called_none e b k q = rw (e, q, b, k) (record { state = λ m. refl })
 
-module _ {found : ConfigFound} {instance : ℕ} {qpi : Bool} {tree : ClockTree} {limit : ℕ} {answers log : List ℕ} where
-  pub found_known : {config : QspiConfig} {r : Opened} {log' : List ℕ} → found ≡ Known config → Opens (opening_of instance qpi config tree) limit answers log r log'
+module _ {found : Option QspiConfig} {instance : ℕ} {qpi : Bool} {tree : ClockTree} {limit : ℕ} {answers log : List ℕ} where
+  pub found_known : {config : QspiConfig} {r : Opened} {log' : List ℕ} → found ≡ Some config → Opens (opening_of instance qpi config tree) limit answers log r log'
       → OpensFound found instance qpi tree limit answers log r log'
   found_known e d = rw e (record { result = d.result })
 
-  pub found_none : {new p : Progress} → found ≡ Unknown → new ≡ begun → p ≡ with_number 8 new
+  pub found_none : {new p : Progress} → found ≡ None → new ≡ begun → p ≡ with_number 8 new
       → OpensFound found instance qpi tree limit answers log (record { progress = p; sck_hz = 0 }) log
   found_none e b q = rw (e, q, b) (record { result = λ m. refl })

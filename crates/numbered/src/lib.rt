@@ -5,8 +5,7 @@ ghost use Rattle.config.specs.Config.{work_mode_of};
 ghost use Rattle.numbered.specs.Calls.{CalledMode, OpensFound};
 
 use access::Progress;
-use config::{WorkMode, WorkModeFound, number};
-use config_numbers::ConfigFound;
+use config::{QspiConfig, QspiError, WorkMode};
 use opening::{ClockTree, Opened};
 
 // The work mode of a number, 0 to 6; 8 for another, after 7.
@@ -19,12 +18,9 @@ pub fn set_numbered_mode(
 ) -> Progress
     ensures { CalledMode (work_mode_of mode) qpi limit answers.now log.old result log.new }
 {
-    let found = WorkMode::from_number(mode);
-    match found {
-        WorkModeFound::Mode(known) => {
-            bus::work_mode::set_work_mode(limit, qpi, log, answers, known)
-        }
-        WorkModeFound::Unknown => Progress::new().ended(config_numbers::no_mode(limit)),
+    match WorkMode::from_number(mode) {
+        Some(known) => bus::work_mode::set_work_mode(limit, qpi, log, answers, known),
+        None => Progress::new().ended(config_numbers::no_mode(limit).number()),
     }
 }
 
@@ -35,22 +31,22 @@ pub fn open_found(
     limit: u32,
     log: &mut [u32],
     answers: &[u32],
-    found: ConfigFound,
+    found: Option<QspiConfig>,
     pll_hz: u32,
     osc_hz: u32,
 ) -> Opened
     ensures { OpensFound found instance qpi (record { pll_fra0 = pll_hz; osc_24m = osc_hz }) limit answers.now log.old result log.new }
 {
     match found {
-        ConfigFound::Known(config) => {
+        Some(config) => {
             let clock_tree = ClockTree {
                 pll_fra0: pll_hz,
                 osc_24m: osc_hz,
             };
             opening::open(instance, qpi, limit, log, answers, config, clock_tree)
         }
-        ConfigFound::Unknown => Opened {
-            progress: Progress::new().ended(number::CHAIN),
+        None => Opened {
+            progress: Progress::new().ended(QspiError::Chain.number()),
             sck_hz: 0,
         },
     }

@@ -15,7 +15,7 @@ use Rattle.model.proofs.Advance.{starts}
 use Rattle.model.proofs.Called.{called_holds}
 use Rattle.model.proofs.Polls.{both, change_waits, poll_bound}
 use Rattle.config.specs.declared.config.CsConfig.{CsConfig}
-use Rattle.config.specs.declared.config.CsConfig.TheVariants.{None, Some}
+use Rattle.std.specs.Prelude.{Option, None, Some}
 use Rattle.config.specs.declared.config.WorkMode.{WorkMode}
 use Rattle.config.specs.declared.config.WorkMode.TheVariants.{Standard, ThreeWire, Dual, DualIO, Quad, QuadIO, Qpi}
 use Rattle.clock.specs.declared.DividerSelect.{DividerSelect}
@@ -50,10 +50,10 @@ unfolding clock_divider
 divider_waits (Cdr1 c) = change_waits _ _
 divider_waits (Cdr2 c) = change_waits _ _
 
-chip_waits : (cs : CsConfig) → AtMost 0 (chip_select cs)
+chip_waits : (cs : Option CsConfig) → AtMost 0 (chip_select cs)
 unfolding chip_select
 chip_waits None = tt
-chip_waits (Some polarity level pin) = change_waits _ _
+chip_waits (Some cs) = change_waits _ _
 
 mode_waits : (mode : WorkMode) (bits : Bool) → AtMost 0 (configure_work_mode mode bits)
 unfolding configure_work_mode bus_mode

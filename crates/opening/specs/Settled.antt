@@ -1,11 +1,10 @@
 -- Settled instances of an opening and a release, and an instance of each law's hypothesis. Every answer is 0.
-use Rattle.std.specs.Prelude.{◌≡◌, true, false, List, [], ◌∷◌, ℕ, ◌*◌, replicate}
+use Rattle.std.specs.Prelude.{◌≡◌, true, false, List, [], ◌∷◌, ℕ, ◌*◌, replicate, None}
 use Rattle.model.specs.Limit.{Ended}
 use Rattle.registers.specs.declared.setting.CtrlMode.TheVariants.{Slave}
 use Rattle.registers.specs.declared.setting.Phase.TheVariants.{CaptureOnFirstTransition, CaptureOnSecondTransition}
 use Rattle.registers.specs.declared.setting.Polarity.TheVariants.{IdleLow, IdleHigh}
 use Rattle.config.specs.declared.spi.Mode.{Mode}
-use Rattle.config.specs.declared.config.CsConfig.TheVariants.{None}
 use Rattle.config.specs.declared.config.WorkMode.{WorkMode}
 use Rattle.config.specs.declared.config.WorkMode.TheVariants.{ThreeWire, Qpi}
 use Rattle.config.specs.declared.config.QspiConfig.{QspiConfig}

@@ -9,7 +9,7 @@ ghost use Rattle.opening.specs.Call.{opening_of, opened_with, Opens, Releases};
 
 use access::Progress;
 use changes::Change;
-use clock::{Choice, DividerSelect, Sck};
+use clock::{Choice, DividerSelect};
 use config::QspiConfig;
 use configure::{controller, module_clock};
 use setups::ClockWord;
@@ -34,10 +34,7 @@ pub struct Opened {
 fn rate(pll: u32, mod_div: u8, divider: DividerSelect) -> u32
     ensures { result ≡ (sck pll mod_div divider).hz }
 {
-    match clock::actual_sck(pll, mod_div, divider) {
-        Sck::Rate(hz) => hz,
-        Sck::NoDivider => 0,
-    }
+    clock::actual_sck(pll, mod_div, divider).unwrap_or(0)
 }
 
 // The steps of an opening, from a progress on: `new` after its tests and its choice of clock.

@@ -12,8 +12,7 @@ use Rattle.model.specs.Steps.Steps.{end}
 use Rattle.config.specs.Config.{work_mode_of}
 use Rattle.config.specs.declared.config.WorkMode.{WorkMode}
 use Rattle.config.specs.declared.config.WorkMode.TheVariants.{Standard, ThreeWire, Dual, DualIO, Quad, QuadIO, Qpi}
-use Rattle.config.specs.declared.config.WorkModeFound.{WorkModeFound}
-use Rattle.config.specs.declared.config.WorkModeFound.TheVariants.{Mode, Unknown}
+use Rattle.std.specs.Prelude.{Option, Some, None}
 use Rattle.qspi.specs.Phases.{Move, reset_fifos, program_transfer, start_transfer, begin_transfer, moved, paced, gots, tx_phase, rx_phase}
 use Rattle.qspi.specs.Phases.Move.{sent, got}
 use Rattle.mode.specs.Mode.{lines, qpi_mode, mode_changes, work_mode_steps}
@@ -111,9 +110,9 @@ call_paired (Call.set_work_mode qpi mode) = mode_paired qpi mode
 call_paired (Call.read_quad rate command tclqv margin n) = quad_paired _ (rx_paired 0 n)
 call_paired (Call.write_quad command bytes) = quad_paired command (tx_paired false bytes)
 
-numbered_paired : (qpi : Bool) (found : WorkModeFound) → Paired (mode_steps qpi found)
-numbered_paired qpi (Mode mode) = mode_paired qpi mode
-numbered_paired qpi Unknown = ends done
+numbered_paired : (qpi : Bool) (found : Option WorkMode) → Paired (mode_steps qpi found)
+numbered_paired qpi (Some mode) = mode_paired qpi mode
+numbered_paired qpi None = ends done
 
 module _ (rate : ℕ) (qpi : Bool) where
   kind_paired : (f : ℕ → ℕ) (k : ℕ) → Paired (get_or (kind_steps rate qpi f) k (end done))

@@ -11,7 +11,3 @@ use Rattle.clock.proofs.factor.Goals as goal
 pub returns-then-place-lt16 : goal.returns-then-place-lt16
 unfolding factor_at
 returns-then-place-lt16 c = simp (lt-ltb _ _ c.if-place-lt16.true) (shl_exact 1 c.args.place 32 (lit< tt) (omega arith) ∙ one-mul _)
-
-pub returns-else-place-lt16 : goal.returns-else-place-lt16
-unfolding factor_at
-returns-else-place-lt16 c = simp (le-ltb _ _ c.if-place-lt16.false) (omega arith)

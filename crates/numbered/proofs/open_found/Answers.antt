@@ -1,8 +1,8 @@
 use Rattle.numbered.proofs.Found.{found_known, found_none}
 use Rattle.numbered.proofs.open_found.Goals as goal
 
-pub returns-in-Known : goal.returns-in-Known
-returns-in-Known c = found_known c.in-Known.is c.open.ensures
+pub returns-in-Some : goal.returns-in-Some
+returns-in-Some c = found_known c.in-Some.is c.open.ensures
 
-pub returns-in-Unknown : goal.returns-in-Unknown
-returns-in-Unknown c = found_none c.in-Unknown.is c.new.ensures c.ended.ensures
+pub returns-in-None : goal.returns-in-None
+returns-in-None c = found_none c.in-None.is c.new.ensures (rw c.number.ensures at c.ended.ensures)
