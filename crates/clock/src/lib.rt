@@ -19,7 +19,7 @@ const PLACES: u32 = 272;
 
 const CANDIDATES: u64 = 8_704;
 
-// The rank of the fallback, candidate 0 at a cost above that of any rate. The scan starts with it: no Option to test.
+// The rank of the fallback: candidate 0 at a cost above that of any rate. An Option would be tested at each candidate.
 const FALLBACK: u64 = (1 << 33) * CANDIDATES;
 
 #[derive(Clone, Copy, Debug, PartialEq, Eq)]

@@ -21,7 +21,7 @@ pub enum QspiError {
     Length = 6,
     // Limit 0.
     Limit = 7,
-    // A chain that is none.
+    // A chain's length, kind, next or field.
     Chain = 8,
     // Window outside memory.
     Window = 9,
@@ -29,9 +29,9 @@ pub enum QspiError {
     Log = 10,
     // Answers used up.
     Answers = 11,
-    // A divider that is none.
+    // Module divider above 31, or Cdr1 above 15.
     Divider = 12,
-    // A sheet that is none.
+    // A sheet too long or too short, or its QPI word.
     Sheet = 13,
 }
 
