@@ -19,7 +19,8 @@ use Rattle.chain.specs.Laws.{UsedFields, HypothesesMet}
 
 computed : HypothesesMet × UsedFields
 unfolding get_field set_field head_of value_of answer_of answers_of receive received words stored plus poll_tally tally_event tally_of then finally change wait_for
-    entered answered poll run room_of ran onward advance called reset_fifos program_transfer start_transfer begin_transfer moved moved_all paced gots
+    entered answered poll run room_of ran onward advance called reset_fifos program_transfer start_transfer
+    begin_transfer moved moved_all paced gots
     tx_phase rx_phase lines qpi_mode mode_changes work_mode_steps framed quad_mode standard_mode quad_start quad_steps window read_quad_windows write_quad_windows out_of_range
     extents_fault windows_fault record_fault records_in along checked record_steps chain_steps refusal outcome write_window transfer_windows transfer_steps
     in_place_steps parts part_steps delay_cycles

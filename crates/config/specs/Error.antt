@@ -1,8 +1,8 @@
 -- Document 01's number and words of each error, and the number by which a call ends ("How a call ends").
 use Rattle.std.specs.Prelude.{ℕ, List, Result, Ok, Err, codes}
 use Rattle.config.specs.declared.error.QspiError.{QspiError}
-use Rattle.config.specs.declared.error.QspiError.TheVariants.{Timeout, Unsupported, SpiMode, Instance, Qpi, Length, Limit}
-use Rattle.config.specs.declared.error.QspiError.TheVariants.{Chain, Window, Log, Answers, Divider, Sheet}
+use Rattle.config.specs.declared.error.QspiError.TheVariants.{Timeout, Unsupported, SpiMode, Instance, Qpi, Length}
+use Rattle.config.specs.declared.error.QspiError.TheVariants.{Limit, Chain, Window, Log, Answers, Divider, Sheet}
 
 -- 1 to 13
 abbrev pub error_number : QspiError → ℕ

@@ -10,7 +10,8 @@ pub use Rattle.registers.specs.Setting.{ctrl_mode_of}
 
 -- the chip-select record, if there is one
 abbrev pub cs_of : Bool → Bool → Bool → Bool → Option CsConfig
-cs_of true high level second = Some (record { polarity = polarity_of high; level = level_of level; pin = pin_of second })
+cs_of true high level second =
+    Some (record { polarity = polarity_of high; level = level_of level; pin = pin_of second })
 cs_of false high level second = None
 
 abbrev pub mode_of : Bool → Bool → spi.Mode
@@ -19,5 +20,13 @@ mode_of high second = record { polarity = polarity_of high; phase = phase_of sec
 -- no configuration without a work mode
 abbrev pub config_of : Option WorkMode → ℕ → spi.Mode → CtrlMode → Bool → Bool → Option CsConfig → Option QspiConfig
 config_of (Some work) freq spi ctrl bits lsb cs =
-    Some (record { freq = freq; mode = spi; ctrl_mode = ctrl; work_mode = work; bit_mode_en = bits; lsb_first = lsb; cs_config = cs })
+    Some (record {
+      freq = freq;
+      mode = spi;
+      ctrl_mode = ctrl;
+      work_mode = work;
+      bit_mode_en = bits;
+      lsb_first = lsb;
+      cs_config = cs;
+    })
 config_of None freq spi ctrl bits lsb cs = None

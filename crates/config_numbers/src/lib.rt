@@ -66,8 +66,9 @@ impl ConfigNumbers {
 
     // The configuration, if its work mode has a number from 0 to 6.
     pub fn config(self) -> Option<QspiConfig>
-        ensures { result ≡ config_of (work_mode_of self.work_mode) self.freq (mode_of self.idle_high self.second_transition)
-            (ctrl_mode_of self.master) self.bit_mode self.lsb_first (cs_of self.cs self.cs_idle_high self.cs_high self.cs_1) }
+        ensures { result ≡ config_of (work_mode_of self.work_mode) self.freq
+            (mode_of self.idle_high self.second_transition) (ctrl_mode_of self.master) self.bit_mode self.lsb_first
+            (cs_of self.cs self.cs_idle_high self.cs_high self.cs_1) }
     {
         Some(QspiConfig {
             freq: self.freq,

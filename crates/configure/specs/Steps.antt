@@ -43,7 +43,8 @@ bit6 (Some cs) = 0
 -- bits 2, 7 and 4 to 5 as a chip-select record has them
 abbrev pub selected : CsConfig → ℕ → ℕ
 selected cs w =
-    set_field 4 2 (cs_pin_bits cs.pin) (set_field 7 1 (cs_level_bits cs.level) (set_field 2 1 (polarity_bits cs.polarity) w))
+    set_field 4 2 (cs_pin_bits cs.pin)
+    (set_field 7 1 (cs_level_bits cs.level) (set_field 2 1 (polarity_bits cs.polarity) w))
 
 -- with such a record 008 again for these
 unfoldable pub chip_select : Option CsConfig → Steps

@@ -22,7 +22,8 @@ module _ {log' : List ℕ} {p : Progress} {number entries taken polls longest : 
   pub gives_on : {outcome : State} {m' : List ℕ} → state_of p log' m' ≡ outcome → GivesOn outcome log' m' number entries taken polls longest
   gives_on {m' = m'} d = record { state = told_state t log' m' ∙ d }
 
-pub opening_gives : {found : Option QspiConfig} {instance : ℕ} {qpi : Bool} {tree : ClockTree} {limit : ℕ} {answers log log' : List ℕ}
+pub opening_gives : {found : Option QspiConfig} {instance : ℕ} {qpi : Bool} {tree : ClockTree} {limit : ℕ}
+    {answers log log' : List ℕ}
     {r : Opened} {number entries taken polls longest : ℕ} → Told r.progress number entries taken polls longest
     → OpensFound found instance qpi tree limit answers log r log'
     → GivesOpening found instance qpi tree limit answers log log' r.sck_hz number entries taken polls longest

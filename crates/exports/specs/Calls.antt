@@ -15,7 +15,8 @@ pub record GivesOn (outcome : State) (log' m' : List ℕ) (number entries taken 
   pub state : state_of number entries taken polls longest log' m' ≡ outcome
 
 -- an opening, whose configuration is numbers, with its rate
-pub record GivesOpening (found : Option QspiConfig) (instance : ℕ) (qpi : Bool) (tree : ClockTree) (limit : ℕ) (answers log log' : List ℕ)
+pub record GivesOpening (found : Option QspiConfig) (instance : ℕ) (qpi : Bool) (tree : ClockTree) (limit : ℕ)
+    (answers log log' : List ℕ)
     (rate number entries taken polls longest : ℕ) : Type 0 where
   pub result : (m : List ℕ)
       → record { state = state_of number entries taken polls longest log' m; rate = rate } ≡ opening_outcome found instance qpi tree limit answers log m

@@ -17,7 +17,8 @@ use Rattle.opening.specs.Call.{opening_of, Opens}
 use Rattle.numbered.specs.Calls.{CalledMode, OpensFound}
 
 module _ {found : Option WorkMode} {qpi : Bool} {limit : ℕ} {answers log : List ℕ} {p : Progress} where
-  pub called_mode : {work : WorkMode} {log' : List ℕ} → found ≡ Some work → Called (Call.set_work_mode qpi work) limit answers log p log'
+  pub called_mode : {work : WorkMode} {log' : List ℕ} → found ≡ Some work
+      → Called (Call.set_work_mode qpi work) limit answers log p log'
       → CalledMode found qpi limit answers log p log'
   called_mode e d = rw e (record { state = d.state })
 
@@ -25,8 +26,10 @@ module _ {found : Option WorkMode} {qpi : Bool} {limit : ℕ} {answers log : Lis
       → CalledMode found qpi limit answers log p log
   called_none e b k q = rw (e, q, b, k) (record { state = λ m. refl })
 
-module _ {found : Option QspiConfig} {instance : ℕ} {qpi : Bool} {tree : ClockTree} {limit : ℕ} {answers log : List ℕ} where
-  pub found_known : {config : QspiConfig} {r : Opened} {log' : List ℕ} → found ≡ Some config → Opens (opening_of instance qpi config tree) limit answers log r log'
+module _ {found : Option QspiConfig} {instance : ℕ} {qpi : Bool} {tree : ClockTree} {limit : ℕ}
+    {answers log : List ℕ} where
+  pub found_known : {config : QspiConfig} {r : Opened} {log' : List ℕ} → found ≡ Some config
+      → Opens (opening_of instance qpi config tree) limit answers log r log'
       → OpensFound found instance qpi tree limit answers log r log'
   found_known e d = rw e (record { result = d.result })
 
