@@ -43,7 +43,7 @@ places-preserved c = let eligible = sym c.eligible.ensures ∙ c.if-eligible.tru
     let divisor = c.factor.ensures in
     let ranked = c.rank_of.ensures in
     let more = place_more _ _ _ _ (inside c.before.before.before.before.before) eligible c.places.invariant.1 divisor
-        ranked c.min-best.ensures in
+    ranked c.min-best.ensures in
     ((ahead c).1, kind_passed _ _ _ _ (inside c.before.before.before.before.before) eligible more divisor c.next_place-place.ensures)
 
 pub modules-preserved : goal.modules-preserved
@@ -67,7 +67,7 @@ returns c =
           let place = lt_of_le-ne w.places.invariant.0 w.if-place-eq-PLACES.false in
           let eligible = sym w.eligible.ensures ∙ w.if-eligible.true in
           let more = place_more _ _ _ _ place eligible w.places.invariant.1 w.factor.ensures w.rank_of.ensures
-              w.min-best.ensures in
+          w.min-best.ensures in
           w.found-is ∙ settled _ _ _ _ (within m place) more w.if-best-lt-CANDIDATES.true
     ] in
     c.candidate_at.ensures ∙ ap (λ n. candidate (n % 8_704)) found
