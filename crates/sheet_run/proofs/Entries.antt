@@ -53,3 +53,7 @@ module _ (bs : List ℕ) {p : Progress} {log' bs' : List ℕ} (d : RunsSheet bs 
         record { within = rw (l, t) (simp length-append (omega arith)); zeros = t ∙ ap filled (sym front) },
         record { text = front ∙ e; bytes = ap (λ st. st.memory) d.state },
       )
+
+-- the text lies in its buffer
+pub prints_within : {text : List ℕ} {n : ℕ} → Behind text n → n ≤ length text
+prints_within b = b.within
