@@ -10,7 +10,7 @@ use Rattle.model.specs.Steps.Steps.{end}
 use Rattle.model.specs.State.{advance}
 use Rattle.model.proofs.Advance.{onto, ended, skipped}
 use Rattle.access.specs.declared.progress.Progress.{Progress}
-use Rattle.access.specs.Of.{state_of}
+use Rattle.access.specs.Of.{state_of, number_in}
 use Rattle.access.specs.Does.{Sound, Runs}
 use Rattle.access.proofs.Sequence.{part_length}
 
@@ -30,7 +30,7 @@ through_starts f buf limit answers p log few =
 
 module _ {f : ℕ → ℕ → Steps} {buf buf' answers : List ℕ} {limit : ℕ} {p r : Progress} {log log' : List ℕ} {i : ℕ}
     (on : Through f buf limit answers p log r log' buf' i) where
-  pub through_stops : (r.number ≡ 0 → ⊥) → Runs (f 0 (length buf)) limit answers p log buf r log' buf'
+  pub through_stops : (number_in r ≡ 0 → ⊥) → Runs (f 0 (length buf)) limit answers p log buf r log' buf'
   through_stops n = record { sound = on.sound; state = sym (on.state ∙ skipped _ limit answers _ n) }
 
   pub through_done : ((at : ℕ) → f at 0 ≡ end done) → length buf ≤ i → Runs (f 0 (length buf)) limit answers p log buf r log' buf'

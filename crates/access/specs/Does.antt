@@ -1,9 +1,6 @@
 -- What an access, a wait, a phase or a call promises: from the progress p and the log at entry to the progress r and the log at exit.
-use Rattle.std.specs.Prelude.{◌≡◌, List, ℕ, ◌≤◌, ◌<◌, get_or}
-use Rattle.model.specs.Event.{Ask, said}
+use Rattle.std.specs.Prelude.{◌≡◌, List, ℕ, ◌≤◌}
 use Rattle.model.specs.Steps.{Steps}
-use Rattle.model.specs.Steps.End.{done}
-use Rattle.model.specs.Steps.Steps.{end, ask}
 use Rattle.model.specs.State.{advance}
 use Rattle.access.specs.declared.progress.Progress.{Progress}
 use Rattle.access.specs.Of.{state_of}
@@ -11,19 +8,6 @@ use Rattle.access.specs.Of.{state_of}
 -- the counts of a progress: no more polls than entries
 abbrev pub Sound : Progress → Type 0
 Sound p = p.tally.polls ≤ p.entries
-
--- Steps that take no answer and wait for nothing were done, whatever the memory, which they leave as it is.
-pub record Acts (s : Steps) (p : Progress) (log : List ℕ) (r : Progress) (log' : List ℕ) : Type 0 where
-  pub sound : Sound r
-  pub state : (limit : ℕ) (answers m : List ℕ) → state_of r log' m ≡ advance s limit answers (state_of p log m)
-
--- An answer was taken, and says `word`; without one the word is 0.
-pub record Asks (q : Ask) (answers : List ℕ) (p : Progress) (log : List ℕ) (r : Progress) (log' : List ℕ) (word : ℕ) : Type 0 where
-  pub sound : Sound r
-  pub state : (limit : ℕ) (m : List ℕ) → state_of r log' m ≡ advance (ask q (λ x. end done)) limit answers (state_of p log m)
-  pub says : r.number ≡ 0 → word ≡ said q (get_or answers p.taken 0)
-  pub none : (r.number ≡ 0 → ⊥) → word ≡ 0
-  pub rises : r.number ≡ 0 → r.tally.polls < r.entries
 
 -- The steps were done at this limit, whatever the memory, which they leave as it is.
 pub record Does (s : Steps) (limit : ℕ) (answers : List ℕ) (p : Progress) (log : List ℕ) (r : Progress) (log' : List ℕ) : Type 0 where

@@ -1,13 +1,7 @@
-// One access: entered in the log, or refused by 10 or 11 with nothing changed.
-ghost use Rattle.std.specs.Prelude.{◌≡◌, ◌+◌, ◌*◌, ◌/◌, ◌<◌, length, set};
+// Accesses, and their entries.
+ghost use Rattle.std.specs.Prelude.{◌≡◌};
 ghost use Rattle.model.specs.Event.{act_head, act_value, ask_head, said};
-ghost use Rattle.model.specs.Steps.End.{done};
-ghost use Rattle.model.specs.Steps.Steps.{end, act};
 ghost use Rattle.access.specs.Of.{act_of, ask_of};
-ghost use Rattle.access.specs.Does.{Sound, Acts, Asks};
-
-use super::progress::Progress;
-use config::number;
 
 // An access that takes no answer.
 #[derive(Clone, Copy)]
@@ -22,7 +16,7 @@ pub enum Act {
 
 impl Act {
     // The first word of its entry: op × 65,536 + place.
-    fn head(self) -> u32
+    pub fn head(self) -> u32
         ensures { result ≡ act_head (act_of self) }
     {
         match self {
@@ -33,7 +27,7 @@ impl Act {
     }
 
     // The second word: its value.
-    fn value(self) -> u32
+    pub fn value(self) -> u32
         ensures { result ≡ act_value (act_of self) }
     {
         match self {
@@ -55,7 +49,7 @@ pub enum Ask {
 
 impl Ask {
     // The first word of its entry.
-    fn head(self) -> u32
+    pub fn head(self) -> u32
         ensures { result ≡ ask_head (ask_of self) }
     {
         match self {
@@ -65,80 +59,12 @@ impl Ask {
     }
 
     // What an answer says: a byte is its low eight bits.
-    fn said(self, answer: u32) -> u32
+    pub fn said(self, answer: u32) -> u32
         ensures { result ≡ said (ask_of self) answer }
     {
         match self {
             Ask::Register(_) => answer,
             Ask::Byte => answer % 256,
         }
-    }
-}
-
-// What an answer says, with the progress after it; 0 where there is none.
-#[derive(Clone, Copy)]
-pub struct Answer {
-    pub progress: Progress,
-    pub word: u32,
-}
-
-// One log entry.
-fn log_entry(log: &mut [u32], entries: usize, head: u32, value: u32)
-    requires { entries < length log.old / 2 }
-    ensures { log.new ≡ set (set log.old (entries * 2) head) (entries * 2 + 1) value }
-{
-    let at = entries * 2;
-    log[at] = head;
-    log[at + 1] = value;
-}
-
-// An access that takes no answer; 10 where its entry does not fit.
-pub fn perform(progress: Progress, log: &mut [u32], access: Act) -> Progress
-    requires { Sound progress }
-    ensures { Acts (act (act_of access) (end done)) progress log.old result log.new }
-{
-    let entries = progress.entries;
-    let number = progress.number;
-    if number != 0 {
-        return progress.ended(number);
-    }
-    if log.len() / 2 <= entries {
-        return progress.ended(number::LOG);
-    }
-    log_entry(log, entries, access.head(), access.value());
-    progress.entered(entries + 1, progress.taken)
-}
-
-// An access that takes the next answer; 10 where its entry does not fit, else 11 where no answer is left.
-pub fn query(progress: Progress, log: &mut [u32], answers: &[u32], access: Ask) -> Answer
-    requires { Sound progress }
-    ensures { Asks (ask_of access) answers.now progress log.old result.progress log.new result.word }
-{
-    let entries = progress.entries;
-    let number = progress.number;
-    if number != 0 {
-        return Answer {
-            progress: progress.ended(number),
-            word: 0,
-        };
-    }
-    if log.len() / 2 <= entries {
-        return Answer {
-            progress: progress.ended(number::LOG),
-            word: 0,
-        };
-    }
-    let next = answers::read_next(answers, progress.taken);
-    if !next.found {
-        return Answer {
-            progress: progress.ended(number::ANSWERS),
-            word: 0,
-        };
-    }
-    let word = access.said(next.word);
-    log_entry(log, entries, access.head(), word);
-    Answer {
-        progress: progress.entered(entries + 1, next.at),
-        word,
     }
 }

@@ -1,7 +1,9 @@
-// How far a call has come: its number and its four counts.
+// What a call comes to: how it ended, and its four counts.
 ghost use Rattle.std.specs.Prelude.{◌≡◌, ◌-◌, ◌^◌, ◌<◌};
 ghost use Rattle.model.specs.Tally.{plus, poll_tally};
-ghost use Rattle.access.specs.Of.{cause_of, tally_in, begun, with_number, with_counts, with_tally};
+ghost use Rattle.access.specs.Of.{cause_of, tally_in, number_in, refused};
+
+use config::QspiError;
 
 // What a wait is for.
 #[derive(Clone, Copy)]
@@ -45,73 +47,36 @@ impl Tally {
     }
 }
 
-// Nothing more is done once the number is not 0.
+// How a call ended, and its four counts.
 #[derive(Clone, Copy)]
 pub struct Progress {
-    pub number: u32,
+    pub ended: Result<(), QspiError>,
     pub entries: usize,
     pub taken: usize,
     pub tally: Tally,
 }
 
 impl Progress {
-    // No entry made, and the first answer next.
-    pub fn new() -> Progress
-        ensures { result ≡ begun }
+    // A call that was refused before any access.
+    pub fn refused(error: QspiError) -> Progress
+        ensures { result ≡ refused error }
     {
         let tally = Tally {
             polls: 0,
             longest: 0,
         };
         Progress {
-            number: 0,
+            ended: Err(error),
             entries: 0,
             taken: 0,
             tally,
         }
     }
 
-    // The progress with another number. It is made field by field, here and below: so the compiler keeps it in registers.
-    pub fn ended(self, number: u32) -> Progress
-        ensures { result ≡ with_number number self }
+    // Document 01's number of how it ended.
+    pub fn number(self) -> u32
+        ensures { result ≡ number_in self }
     {
-        let tally = self.tally;
-        Progress {
-            number,
-            entries: self.entries,
-            taken: self.taken,
-            tally: Tally {
-                polls: tally.polls,
-                longest: tally.longest,
-            },
-        }
-    }
-
-    // The progress with other entries made and answers taken.
-    pub fn entered(self, entries: usize, taken: usize) -> Progress
-        ensures { result ≡ with_counts entries taken self }
-    {
-        let tally = self.tally;
-        Progress {
-            number: self.number,
-            entries,
-            taken,
-            tally: Tally {
-                polls: tally.polls,
-                longest: tally.longest,
-            },
-        }
-    }
-
-    // The progress with another tally.
-    pub fn tallied(self, tally: Tally) -> Progress
-        ensures { result ≡ with_tally tally self }
-    {
-        Progress {
-            number: self.number,
-            entries: self.entries,
-            taken: self.taken,
-            tally,
-        }
+        config::error::number_of(self.ended)
     }
 }

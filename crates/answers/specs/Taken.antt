@@ -1,10 +1,11 @@
 -- The next of the answers, and the place after it.
-use Rattle.std.specs.Prelude.{Bool, true, false, List, ℕ, ◌+◌, ltb, length, get_or}
-use Rattle.answers.specs.declared.Taken.{Taken}
+use Rattle.std.specs.Prelude.{List, ℕ, ◌+◌, slice_get, Option, Some, None}
 
-abbrev pub taken_if : Bool → List ℕ → ℕ → Taken
-taken_if true ws at = record { found = true; word = get_or ws at 0; at = at + 1 }
-taken_if false ws at = record { found = false; word = 0; at = at }
+-- the answer at a place; none where none is left
+abbrev pub taken_at : List ℕ → ℕ → Option ℕ
+taken_at ws at = slice_get ws at
 
-unfoldable pub taken_at : List ℕ → ℕ → Taken
-taken_at ws at = taken_if (ltb at (length ws)) ws at
+-- the place after what was taken; the same where nothing was
+abbrev pub place_after : Option ℕ → ℕ → ℕ
+place_after (Some word) at = at + 1
+place_after None at = at

@@ -26,13 +26,11 @@ pub struct BlockingQspi {
     pub config: QspiConfig,
 }
 
-// What an opening hands back.
+// How an opening ended, and its bus where it is done.
 #[derive(Clone, Copy)]
-pub enum Opened {
-    // With number 0.
-    Open(BlockingQspi, Progress),
-    // With any other.
-    Shut(Progress),
+pub struct Opened {
+    pub progress: Progress,
+    pub bus: Option<BlockingQspi>,
 }
 
 impl BlockingQspi {
@@ -49,19 +47,17 @@ impl BlockingQspi {
         ensures { News (opening_of instance qpi config clock_tree) limit answers.now log.old result log.new }
     {
         let opened = opening::open(instance, qpi, limit, log, answers, config, clock_tree);
-        let progress = opened.progress;
-        let sck_hz = opened.sck_hz;
-        if progress.number != 0 {
-            return Opened::Shut(progress);
-        }
-        let bus = BlockingQspi {
+        let bus = opened.sck_hz.map(|sck_hz| BlockingQspi {
             instance,
             qpi,
             limit,
             sck_hz,
             config,
-        };
-        Opened::Open(bus, progress)
+        });
+        Opened {
+            progress: opened.progress,
+            bus,
+        }
     }
 
     // Disables the clock and resets the module.

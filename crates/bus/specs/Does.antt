@@ -1,12 +1,8 @@
 -- What a call promises its user.
-use Rattle.std.specs.Prelude.{◌≡◌, List, [], ◌∷◌, ℕ}
+use Rattle.std.specs.Prelude.{◌≡◌, List, ℕ}
 use Rattle.access.specs.declared.progress.Progress.{Progress}
 use Rattle.access.specs.Of.{state_of}
-use Rattle.bus.specs.Calls.{Call, refusal, outcome}
-
--- n is the refusal of a call with these two lengths; one that it has not is 0
-pub record Refuses (limit first second n : ℕ) : Type 0 where
-  pub is : n ≡ refusal limit (first ∷ second ∷ [])
+use Rattle.bus.specs.Calls.{Call, outcome}
 
 -- a call that leaves the memory alone
 pub record Called (call : Call) (limit : ℕ) (answers log : List ℕ) (r : Progress) (log' : List ℕ) : Type 0 where

@@ -4,7 +4,7 @@ ghost use Rattle.bus.specs.Does.{Called, CalledOn};
 ghost use Rattle.std.specs.Prelude.{length};
 
 use super::refusal;
-use access::Progress;
+use access::{Progress, RegisterBlock};
 
 // Reads `data` on four lines, after `command` and its dummy bytes on one. `hz`: the bus's rate. Only the data's length is tested.
 pub fn read_quad(
@@ -19,14 +19,13 @@ pub fn read_quad(
 ) -> Progress
     ensures { CalledOn (Call.read_quad hz command.now tclqv_ns margin (length «data».old)) limit answers.now log.old «data».old result log.new «data».new }
 {
-    let refused = refusal::refused(limit, data.len(), 0);
-    let begun = Progress::new().ended(refused);
-    if refused != 0 {
-        return begun;
-    }
-    quad::read_quad(
-        limit, begun, log, answers, hz, command, tclqv_ns, margin, data,
-    )
+    let limit = match refusal::refused(limit, data.len(), 0) {
+        Ok(limit) => limit,
+        Err(error) => return Progress::refused(error),
+    };
+    let mut block = RegisterBlock::new(limit, log, answers);
+    let ended = quad::read_quad(&mut block, hz, command, tclqv_ns, margin, data);
+    block.progress(ended)
 }
 
 // Writes `data` on four lines, after `command` on one.
@@ -39,10 +38,11 @@ pub fn write_quad(
 ) -> Progress
     ensures { Called (Call.write_quad command.now «data».now) limit answers.now log.old result log.new }
 {
-    let refused = refusal::refused(limit, command.len(), data.len());
-    let begun = Progress::new().ended(refused);
-    if refused != 0 {
-        return begun;
-    }
-    quad::write_quad(limit, begun, log, answers, command, data)
+    let limit = match refusal::refused(limit, command.len(), data.len()) {
+        Ok(limit) => limit,
+        Err(error) => return Progress::refused(error),
+    };
+    let mut block = RegisterBlock::new(limit, log, answers);
+    let ended = quad::write_quad(&mut block, command, data);
+    block.progress(ended)
 }

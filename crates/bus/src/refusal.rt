@@ -1,23 +1,26 @@
 // What is refused before any access.
-ghost use Rattle.bus.specs.Does.{Refuses};
+ghost use Rattle.std.specs.Prelude.{[], ◌∷◌};
+ghost use Rattle.access.specs.Of.{Refuses};
+ghost use Rattle.bus.specs.Calls.{refusal};
 
-use config::number;
+use config::QspiError;
+use std::num::NonZeroU32;
 
 // The longest phase: FFFFFF hex.
 const MAX_LENGTH: usize = 0xFFFFFF;
 
-// 7 for limit 0, then 6 for a phase that is too long, else 0. A call of one phase, or of none, gives 0 for the others.
-pub fn refused(limit: u32, first: usize, second: usize) -> u32
-    ensures { Refuses limit first second result }
+// 7 for limit 0, then 6 for a phase that is too long; else the limit. A call of one phase, or of none, gives 0 for the others.
+pub fn refused(limit: u32, first: usize, second: usize) -> Result<NonZeroU32, QspiError>
+    ensures { Refuses limit (refusal limit (first ∷ second ∷ [])) result }
 {
-    if limit == 0 {
-        return number::LIMIT;
-    }
+    let Some(limit) = NonZeroU32::new(limit) else {
+        return Err(QspiError::Limit);
+    };
     if first > MAX_LENGTH {
-        return number::LENGTH;
+        return Err(QspiError::Length);
     }
     if second > MAX_LENGTH {
-        return number::LENGTH;
+        return Err(QspiError::Length);
     }
-    number::DONE
+    Ok(limit)
 }

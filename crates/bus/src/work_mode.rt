@@ -3,7 +3,7 @@ ghost use Rattle.bus.specs.Calls.{Call};
 ghost use Rattle.bus.specs.Does.{Called};
 
 use super::refusal;
-use access::Progress;
+use access::{Progress, RegisterBlock};
 use config::WorkMode;
 
 // Waits for the transfer to complete, then changes the mode. `qpi`: the chip has QPI.
@@ -16,10 +16,11 @@ pub fn set_work_mode(
 ) -> Progress
     ensures { Called (Call.set_work_mode qpi mode) limit answers.now log.old result log.new }
 {
-    let refused = refusal::refused(limit, 0, 0);
-    let begun = Progress::new().ended(refused);
-    if refused != 0 {
-        return begun;
-    }
-    mode::set_work_mode(limit, qpi, begun, log, answers, mode)
+    let limit = match refusal::refused(limit, 0, 0) {
+        Ok(limit) => limit,
+        Err(error) => return Progress::refused(error),
+    };
+    let mut block = RegisterBlock::new(limit, log, answers);
+    let ended = mode::set_work_mode(&mut block, qpi, mode);
+    block.progress(ended)
 }

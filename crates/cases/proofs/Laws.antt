@@ -1,100 +1,104 @@
--- A turn of each loop, and its end.
-use mathlib.Core.Path.{◌≡◌, refl}
-use mathlib.Core.Bool.{Bool, true, false, cond}
-use mathlib.Core.List.{List}
-use Prim.Native.Nat.{ℕ, suc, ◌+◌, ◌-◌, ◌*◌, ◌^◌, ◌≤◌, ◌<◌, min}
-use native.Mathlib.Numerals.{add-one}
-use native.Mathlib.Omega.{arith}
-use lib.Dec.{ltb, eqb}
-use borrow.Author.Tests.{le-ltb, lt-leb, ltb-false, eq-eqb, ne_eqb}
-use lib.ListN.{length, take, drop, get_or, drop_of_length-le, length-drop}
-use lib.Seq.{drop-cons, take_all}
-use Rattle.cases.specs.Number.{digit_of, step, value_of, is_hex, number_of}
-use Rattle.cases.specs.Ends.{ends_at, end_within}
-use Rattle.cases.specs.Same.{same_bytes}
+-- A digit more, the number of a word, and the first place where a case ends.
+use Rattle.std.proofs.Common.{◌≡◌, refl, sym, ap, ◌∙◌, inl, inr, eq-or-lt_of_le, length-drop, ℕ, zero, suc, ◌+◌, ◌-◌}
+use Rattle.std.proofs.Common.{◌*◌, ◌^◌, ◌≤◌, ◌<◌, true, false, List, [], ◌∷◌, length, take, drop, get_or, Option, None}
+use Rattle.std.proofs.Common.{Some, MatchOption, SomeIff, IfSome, nat_eq, arith, add-one, drop-cons, drop_of_length-le}
+use Rattle.std.proofs.Common.{lt-ltb, le-ltb, take_all, eq-eqb}
+use Rattle.std.specs.List.{starts_with}
+use Rattle.cases.specs.Number.{digit_of, in_32, step, value_of, is_hex, number_of}
+use Rattle.cases.specs.Ends.{ends_at, end_within, end_from}
 
+-- one digit more
+module _ (base v b : ℕ) where
+  pub step_none : digit_of b ≡ None → step base v b ≡ None
+  unfolding step
+  step_none e = rw e
+
+  pub step_above : (d : ℕ) → digit_of b ≡ Some d → base ≤ d → step base v b ≡ None
+  unfolding step
+  step_above d e h = rw (e, le-ltb _ _ h)
+
+  pub step_over : (d : ℕ) → digit_of b ≡ Some d → d < base → 2 ^ 32 ≤ v * base + d → step base v b ≡ None
+  unfolding step in_32
+  step_over d e h k = rw (e, lt-ltb _ _ h, le-ltb _ _ k)
+
+  pub step_below : (d : ℕ) → digit_of b ≡ Some d → d < base → v * base + d < 2 ^ 32
+      → step base v b ≡ Some (v * base + d)
+  unfolding step in_32
+  step_below d e h k = rw (e, lt-ltb _ _ h, lt-ltb _ _ k)
+
+  pub step_sum : (d : ℕ) → digit_of b ≡ Some d → d < base → (m : ℕ) → m ≡ v * base
+      → (r : Option ℕ) → SomeIff r (m + d < 2 ^ 32) (m + d) → r ≡ step base v b
+  step_sum d e h m q None k = sym (step_over d e h (omega (arith, k)))
+  step_sum d e h m q (Some n) k =
+      ap (λ (x : ℕ). Some x) (omega (arith, k.1)) ∙ sym (step_below d e h (omega (arith, k.0)))
+
+-- a turn over the digits, and the end
 module _ (base v : ℕ) (ds : List ℕ) (i : ℕ) where
-  pub value_next : i < length ds → value_of base v (drop i ds) ≡ value_of base (step base v (get_or ds i 0)) (drop (i + 1) ds)
+  pub value_stops : i < length ds → step base v (get_or ds i 0) ≡ None → value_of base v (drop i ds) ≡ None
   unfolding value_of
-  value_next h = rw (add-one, drop-cons ds i 0)
+  value_stops h e = rw (drop-cons ds i 0, e)
 
-  pub value_end : length ds ≤ i → value_of base v (drop i ds) ≡ v
+  pub value_next : (w : ℕ) → i < length ds → step base v (get_or ds i 0) ≡ Some w
+      → value_of base v (drop i ds) ≡ value_of base w (drop (i + 1) ds)
+  unfolding value_of
+  value_next w h e = rw (add-one, drop-cons ds i 0, e)
+
+  pub value_end : length ds ≤ i → value_of base v (drop i ds) ≡ Some v
   unfolding value_of
   value_end h = rw (drop_of_length-le ds h)
 
-module _ (text : List ℕ) (i : ℕ) where
-  pub end_here : i < length text → ends_at text i ≡ true → end_within text (length text - i) i ≡ i
-  unfolding end_within
-  end_here h e =
-      let left : length text - i ≡ suc (length text - (i + 1)) = omega arith in
-      rw (left, e)
+-- the first place where a case ends
+pub end_none : (text : List ℕ) (k i : ℕ)
+    → ((j : ℕ) → i ≤ j → j < i + k → ends_at text j ≡ false) → end_within text k i ≡ None
+unfolding end_within
+end_none text zero i none = refl
+end_none text (suc k) i none =
+    let here : ends_at text i ≡ false = none i (omega arith) (omega arith) in
+    rw here (end_none text k (i + 1) (λ j h l. none j (omega arith) (omega arith)))
 
-  pub end_next : i < length text → ends_at text i ≡ false → end_within text (length text - i) i ≡ end_within text (length text - (i + 1)) (i + 1)
-  unfolding end_within
-  end_next h e =
-      let left : length text - i ≡ suc (length text - (i + 1)) = omega arith in
-      rw (left, e)
+pub end_some : (text : List ℕ) (k i n : ℕ) → i ≤ n → n < i + k → ends_at text n ≡ true
+    → ((j : ℕ) → i ≤ j → j < n → ends_at text j ≡ false)
+    → end_within text k i ≡ Some n
+unfolding end_within
+end_some text zero i n h l e none = absurd (omega arith)
+end_some text (suc k) i n h l e none =
+    elim (eq-or-lt_of_le h) [
+      | inl q ↦ (let here : ends_at text i ≡ true = rw q e in rw here (ap (λ (m : ℕ). Some m) q))
+      | inr q ↦ (
+          let here : ends_at text i ≡ false = none i (omega arith) q in
+          rw here (end_some text k (i + 1) n (omega arith) (omega arith) e (λ j m p. none j (omega arith) p)))
+    ]
 
-  pub end_none : length text ≤ i → end_within text (length text - i) i ≡ i
-  unfolding end_within
-  end_none h =
-      let left : length text - i ≡ 0 = omega arith in
-      rw left
+-- the first place of all, by a search
+abbrev pub First : List ℕ → ℕ → Option ℕ → Type 0
+First text from r =
+    MatchOption r ((k : ℕ) → from ≤ k → k < length text → ends_at text k ≡ false)
+    (λ i. (from ≤ i) × (i < length text) × (ends_at text i ≡ true)
+    × ((k : ℕ) → from ≤ k → k < i → ends_at text k ≡ false))
 
-module _ (a b : List ℕ) (i : ℕ) where
-  pub same_next : i < length a → i < length b → get_or a i 0 ≡ get_or b i 0 → same_bytes (drop i a) (drop i b) ≡ same_bytes (drop (i + 1) a) (drop (i + 1) b)
-  unfolding same_bytes
-  same_next h k e = rw (add-one, drop-cons a i 0, drop-cons b i 0, eq-eqb _ _ e)
+pub end_found : (text : List ℕ) (from : ℕ) (r : Option ℕ) → First text from r → r ≡ end_from text from
+end_found text from None h = sym (end_none text _ from (λ j l m. h j l (omega arith)))
+end_found text from (Some i) h = sym (end_some text _ from i h.0 (omega (arith, h.1)) h.2 h.3)
 
-  pub same_differ : i < length a → i < length b → (get_or a i 0 ≡ get_or b i 0 → ⊥) → same_bytes (drop i a) (drop i b) ≡ false
-  unfolding same_bytes
-  same_differ h k e = rw (drop-cons a i 0, drop-cons b i 0, ne_eqb _ _ e)
+three : (xs : List ℕ) → starts_with nat_eq xs (10 ∷ 46 ∷ 10 ∷ []) ≡ true → 3 ≤ length xs
+three [] e = cc
+three (a ∷ []) e = grind arith
+three (a ∷ b ∷ []) e = grind arith
+three (a ∷ b ∷ c ∷ xs) e = omega arith
 
-  pub same_shorter : i < length a → length b ≤ i → same_bytes (drop i a) (drop i b) ≡ false
-  unfolding same_bytes
-  same_shorter h k = rw (drop-cons a i 0, drop_of_length-le b k)
+pub ends_inside : (text : List ℕ) (i : ℕ) → ends_at text i ≡ true → i + 3 ≤ length text
+unfolding ends_at
+ends_inside text i e = let some : 3 ≤ length (drop i text) = three (drop i text) e in omega (arith, length-drop i text)
 
-  pub same_longer : length a ≤ i → i < length b → same_bytes (drop i a) (drop i b) ≡ false
-  unfolding same_bytes
-  same_longer h k = rw (drop_of_length-le a h, drop-cons b i 0)
+pub end_bounds : (text : List ℕ) (from : ℕ) (r : Option ℕ) → First text from r
+    → IfSome r (λ i. (from ≤ i) × (i + 3 ≤ length text))
+end_bounds text from None h = _
+end_bounds text from (Some i) h = (h.0, ends_inside text i h.2)
 
-  pub same_end : length a ≤ i → length b ≤ i → same_bytes (drop i a) (drop i b) ≡ true
-  unfolding same_bytes
-  same_end h k = rw (drop_of_length-le a h, drop_of_length-le b k)
-
--- one digit more
-pub step_more : (base v b d r : ℕ) → d ≡ digit_of b → d < base → r ≡ min (2 ^ 32) (v * base + d) → r ≡ step base v b
-unfolding step
-step_more base v b d r e h k = rw (← e, lt-leb _ _ h) k
-
-module _ (w : List ℕ) where
-  pub hex_third : 3 ≤ length w → get_or w 0 0 ≡ 48 → is_hex w ≡ eqb (get_or w 1 0) 120
-  unfolding is_hex
-  hex_third h e = rw (le-ltb _ _ h, eq-eqb _ _ e)
-
-  three : (t : Bool) → ltb (length w) 3 ≡ t → cond t false (cond (eqb (get_or w 0 0) 48) (eqb (get_or w 1 0) 120) false) ≡ true → 3 ≤ length w
-  three true q e = let z : ◌≡◌ {A = ℕ} 0 1 = cc in omega arith
-  three false q e = ltb-false _ _ q
-
-  pub hex_long : is_hex w ≡ true → 3 ≤ length w
-  unfolding is_hex
-  hex_long e = three (ltb (length w) 3) refl e
-
-  pub number_hex : is_hex w ≡ true → value_of 16 0 (take (length w - 2) (drop 2 w)) ≡ number_of w
-  unfolding number_of
-  number_hex e =
-      let long : length (drop 2 w) ≤ length w - 2 = simp length-drop (omega arith) in
-      rw (e, take_all _ (drop 2 w) long)
-
-  pub number_none : is_hex w ≡ false → length w ≡ 0 → number_of w ≡ 2 ^ 32
-  unfolding number_of
-  number_none e h = rw (e, eq-eqb _ _ h)
-
-  pub number_decimal : is_hex w ≡ false → (length w ≡ 0 → ⊥) → number_of w ≡ value_of 10 0 w
-  unfolding number_of
-  number_decimal e h = rw (e, ne_eqb _ _ h)
-
-module _ (text : List ℕ) (i : ℕ) where
-  pub ends_third : 3 ≤ length text - i → get_or text i 0 ≡ 10 → get_or text (i + 1) 0 ≡ 46 → ends_at text i ≡ eqb (get_or text (i + 2) 0) 10
-  unfolding ends_at
-  ends_third h e k = rw (le-ltb _ _ h, eq-eqb _ _ e, eq-eqb _ _ k)
+-- the digits of a word with 0x are all that follows
+pub number_hex : (w : List ℕ) → 3 ≤ length w → get_or w 0 0 ≡ 48 → get_or w 1 0 ≡ 120
+    → value_of 16 0 (take (length w - 2) (drop 2 w)) ≡ number_of w
+unfolding number_of is_hex
+number_hex w h e k =
+    let long : length (drop 2 w) ≤ length w - 2 = omega (arith, length-drop 2 w) in
+    rw (le-ltb _ _ h, eq-eqb _ _ e, eq-eqb _ _ k, take_all _ (drop 2 w) long)

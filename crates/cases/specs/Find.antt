@@ -1,15 +1,10 @@
 -- The first place of a byte in a text.
-use Rattle.std.specs.Prelude.{Bool, true, false, List, [], ◌∷◌, ℕ, suc, ◌-◌, take, drop, ◌==◌}
+use Rattle.std.specs.Prelude.{List, ℕ, ◌-◌, take, drop, ◌==◌, Option}
+use Rattle.std.specs.List.{position}
 
--- one place further on, unless here
-abbrev pub index_after : Bool → ℕ → ℕ
-index_after true n = 0
-index_after false n = suc n
-
--- the place of the first such byte; the length where there is none
-unfoldable pub index_of : ℕ → List ℕ → ℕ
-index_of x [] = 0
-index_of x (b ∷ bs) = index_after (b == x) (index_of x bs)
+-- the place of the first such byte, if there is one
+abbrev pub index_of : ℕ → List ℕ → Option ℕ
+index_of x text = position (λ b. b == x) text
 
 -- the bytes from one place on and before another
 abbrev pub part_of : ℕ → ℕ → List ℕ → List ℕ

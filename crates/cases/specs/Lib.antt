@@ -1,4 +1,3 @@
 pub mod Number
 pub mod Ends
-pub mod Same
 pub mod Find

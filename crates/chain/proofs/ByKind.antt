@@ -1,50 +1,108 @@
--- The steps of a record, by its kind.
-use mathlib.Core.Path.{◌≡◌, refl}
-use mathlib.Core.Bool.{Bool, true, false, ◌||◌}
+-- The steps of a record, by its kind: those of the record that the code makes of it.
+use mathlib.Core.Path.{◌≡◌, refl, ap}
+use mathlib.Core.Bool.{Bool, true, false, cond}
 use mathlib.Core.List.{List}
-use Prim.Native.Nat.{ℕ, zero, suc, ◌≤◌}
-use lib.Dec.{ltb}
+use Prim.Native.Nat.{ℕ, zero, suc}
+use lib.Dec.{leb}
 use lib.ListN.{get_or}
-use borrow.Author.Tests.{ltb-false}
+use Rattle.std.specs.Prelude.{Option, Some, None, option_map, Ok}
+use Rattle.std.proofs.lemmas.Option.{none-some, same_Some}
+use Rattle.model.specs.Steps.{Steps}
 use Rattle.model.specs.Steps.End.{done}
 use Rattle.model.specs.Steps.Steps.{end}
+use Rattle.config.specs.declared.config.WorkMode.{WorkMode}
+use Rattle.config.specs.Config.{work_mode_of}
 use Rattle.access.specs.declared.progress.Progress.{Progress}
-use Rattle.access.specs.Does.{Sound, Runs}
-use Rattle.access.proofs.Sequence.{nothing_done, does_runs}
-use Rattle.records.specs.Check.{field, out_of_range}
-use Rattle.chain.specs.Chain.{kind_steps, record_steps}
+use Rattle.access.specs.Does.{Runs}
+use Rattle.records.specs.declared.record.Record.{Record}
+use Rattle.records.specs.declared.record.Record.TheVariants.{Mode}
+use Rattle.records.specs.Check.{field, extents_fault}
+use Rattle.records.specs.Record.{records_of, record_of, windows_of}
+use Rattle.records.proofs.KindLaws.{AllIn, all_in}
+use Rattle.chain.specs.Chain.{mode_steps, kind_steps, record_steps}
+use Rattle.chain.specs.Of.{steps_of, Fits}
 
--- a margin that is in range
-pub margin_fits : (r : List ℕ) → field r 0 ≡ 8 → out_of_range r ≡ false → field r 4 ≤ 255
-unfolding out_of_range
-margin_fits r e h = ltb-false _ _ (first (ltb 255 (field r 4)) (rw e at h))
-  where
-    first : (b : Bool) → (b || false) ≡ false → b ≡ false
-    first true h = h
-    first false h = refl
-
-pub by_kind : (rate : ℕ) (qpi : Bool) (r : List ℕ) (k : ℕ) {limit : ℕ} {answers : List ℕ} {p q : Progress} {log log' m m' : List ℕ} → field r 0 ≡ k
-    → Runs (get_or (kind_steps rate qpi (field r)) k (end done)) limit answers p log m q log' m' → Runs (record_steps rate qpi r) limit answers p log m q log' m'
+-- A record of the kind k runs that kind's steps.
+pub by_kind : (rate : ℕ) (qpi : Bool) (r : List ℕ) (k : ℕ) {limit : ℕ} {answers : List ℕ} {p q : Progress}
+    {log log' m m' : List ℕ}
+    → field r 0 ≡ k
+    → Runs (get_or (kind_steps rate qpi (field r)) k (end done)) limit answers p log m q log' m'
+    → Runs (record_steps rate qpi r) limit answers p log m q log' m'
 unfolding record_steps
 by_kind rate qpi r k e d = rw e d
 
-no_steps : (rate : ℕ) (qpi : Bool) (f : ℕ → ℕ) (k : ℕ) → (k ≡ 1 → ⊥) → (k ≡ 2 → ⊥) → (k ≡ 3 → ⊥) → (k ≡ 4 → ⊥) → (k ≡ 5 → ⊥) → (k ≡ 6 → ⊥)
-    → (k ≡ 7 → ⊥) → (k ≡ 8 → ⊥) → (k ≡ 9 → ⊥) → get_or (kind_steps rate qpi f) k (end done) ≡ end done
-no_steps rate qpi f zero a b c d e g h i j = refl
-no_steps rate qpi f (suc zero) a b c d e g h i j = absurd (a refl)
-no_steps rate qpi f (suc (suc zero)) a b c d e g h i j = absurd (b refl)
-no_steps rate qpi f (suc (suc (suc zero))) a b c d e g h i j = absurd (c refl)
-no_steps rate qpi f (suc (suc (suc (suc zero)))) a b c d e g h i j = absurd (d refl)
-no_steps rate qpi f (suc (suc (suc (suc (suc zero))))) a b c d e g h i j = absurd (e refl)
-no_steps rate qpi f (suc (suc (suc (suc (suc (suc zero)))))) a b c d e g h i j = absurd (g refl)
-no_steps rate qpi f (suc (suc (suc (suc (suc (suc (suc zero))))))) a b c d e g h i j = absurd (h refl)
-no_steps rate qpi f (suc (suc (suc (suc (suc (suc (suc (suc zero)))))))) a b c d e g h i j = absurd (i refl)
-no_steps rate qpi f (suc (suc (suc (suc (suc (suc (suc (suc (suc zero))))))))) a b c d e g h i j = absurd (j refl)
-no_steps rate qpi f (suc (suc (suc (suc (suc (suc (suc (suc (suc (suc n)))))))))) a b c d e g h i j = refl
+module _ (rate : ℕ) (qpi : Bool) where
+  -- if a record is made, it has these steps
+  abbrev Has : Option Record → Steps → Type 0
+  Has o s = (r : Record) → o ≡ Some r → s ≡ steps_of rate qpi r
 
--- A kind that there is none of does nothing.
-pub none_runs : (rate : ℕ) (qpi : Bool) (r : List ℕ) {limit : ℕ} {answers : List ℕ} {p : Progress} {log m : List ℕ} → (field r 0 ≡ 1 → ⊥) → (field r 0 ≡ 2 → ⊥)
-    → (field r 0 ≡ 3 → ⊥) → (field r 0 ≡ 4 → ⊥) → (field r 0 ≡ 5 → ⊥) → (field r 0 ≡ 6 → ⊥) → (field r 0 ≡ 7 → ⊥) → (field r 0 ≡ 8 → ⊥) → (field r 0 ≡ 9 → ⊥)
-    → Sound p → Runs (record_steps rate qpi r) limit answers p log m p log m
-unfolding record_steps
-none_runs rate qpi r a b c d e g h i j few = rw (no_steps rate qpi (field r) (field r 0) a b c d e g h i j) (does_runs (nothing_done few) _)
+  has : (t : Record) → Has (Some t) (steps_of rate qpi t)
+  has t r e = ap (steps_of rate qpi) (same_Some _ _ e)
+
+  none_has : (s : Steps) → Has None s
+  none_has s r e = absurd (none-some r e)
+
+  mode_has : (o : Option WorkMode) → Has (option_map Mode o) (mode_steps qpi o)
+  mode_has (Some mode) = has (Mode mode)
+  mode_has None = none_has _
+
+  quad_has : (b : Bool) (t : Record) → Has (cond b (Some t) None) (steps_of rate qpi t)
+  quad_has true t = has t
+  quad_has false t = none_has _
+
+  kind_has : (f : ℕ → ℕ) (k : ℕ) → Has (get_or (records_of f) k None) (get_or (kind_steps rate qpi f) k (end done))
+  kind_has f zero = none_has _
+  kind_has f (suc zero) = has _
+  kind_has f (suc (suc zero)) = has _
+  kind_has f (suc (suc (suc zero))) = has _
+  kind_has f (suc (suc (suc (suc zero)))) = has _
+  kind_has f (suc (suc (suc (suc (suc zero))))) = has _
+  kind_has f (suc (suc (suc (suc (suc (suc zero)))))) = has _
+  kind_has f (suc (suc (suc (suc (suc (suc (suc zero))))))) = mode_has (work_mode_of (f 1))
+  kind_has f (suc (suc (suc (suc (suc (suc (suc (suc zero)))))))) = quad_has (leb (f 4) 255) _
+  kind_has f (suc (suc (suc (suc (suc (suc (suc (suc (suc zero))))))))) = has _
+  kind_has f (suc (suc (suc (suc (suc (suc (suc (suc (suc (suc n)))))))))) = none_has _
+
+pub stated_steps : (rate : ℕ) (qpi : Bool) (words : List ℕ) (r : Record) → record_of words ≡ Some r
+    → record_steps rate qpi words ≡ steps_of rate qpi r
+unfolding record_steps record_of
+stated_steps rate qpi words r e = kind_has rate qpi (field words) (field words 0) r e
+
+module _ (memory : ℕ) where
+  -- if a record is made, its windows fit the memory that they lie in
+  abbrev In : Option Record → Type 0
+  In o = (r : Record) → o ≡ Some r → AllIn memory (windows_of r) → Fits memory r
+
+  inside : (t : Record) → (AllIn memory (windows_of t) → Fits memory t) → In (Some t)
+  inside t h r e = rw (← same_Some _ _ e) h
+
+  none_in : In None
+  none_in r e = absurd (none-some r e)
+
+  mode_in : (o : Option WorkMode) → In (option_map Mode o)
+  mode_in (Some mode) = inside (Mode mode) (λ a. tt)
+  mode_in None = none_in
+
+  quad_in : (b : Bool) (t : Record) → (AllIn memory (windows_of t) → Fits memory t) → In (cond b (Some t) None)
+  quad_in true t h = inside t h
+  quad_in false t h = none_in
+
+  kind_in : (f : ℕ → ℕ) (k : ℕ) → In (get_or (records_of f) k None)
+  kind_in f zero = none_in
+  kind_in f (suc zero) = inside _ (λ a. (a.0.0, a.0.1 refl))
+  kind_in f (suc (suc zero)) = inside _ (λ a. (a.0.0, a.0.1 refl))
+  kind_in f (suc (suc (suc zero))) = inside _ (λ a. ((a.0.0, a.0.1 refl), (a.1.0.0, a.1.0.1 refl)))
+  kind_in f (suc (suc (suc (suc zero)))) = inside _ (λ a. a.0.0)
+  kind_in f (suc (suc (suc (suc (suc zero))))) = inside _ (λ a. tt)
+  kind_in f (suc (suc (suc (suc (suc (suc zero)))))) = inside _ (λ a. tt)
+  kind_in f (suc (suc (suc (suc (suc (suc (suc zero))))))) = mode_in (work_mode_of (f 1))
+  kind_in f (suc (suc (suc (suc (suc (suc (suc (suc zero)))))))) =
+      quad_in (leb (f 4) 255) _ (λ a. (a.0.0, (a.1.0.0, a.1.0.1 refl)))
+  kind_in f (suc (suc (suc (suc (suc (suc (suc (suc (suc zero))))))))) =
+      inside _ (λ a. ((a.0.0, a.0.1 refl), (a.1.0.0, a.1.0.1 refl)))
+  kind_in f (suc (suc (suc (suc (suc (suc (suc (suc (suc (suc n)))))))))) = none_in
+
+  pub stated_fits : (words : List ℕ) (r : Record) → record_of words ≡ Some r
+      → extents_fault memory (windows_of r) ≡ Ok tt → Fits memory r
+  unfolding record_of
+  stated_fits words r e h = kind_in (field words) (field words 0) r e (all_in memory (windows_of r) h)

@@ -10,76 +10,92 @@ use borrow.Author.Tests.{eqb-true}
 use Rattle.model.specs.State.{advance}
 use Rattle.model.proofs.Advance.{onto, ended, skipped}
 use Rattle.access.specs.declared.progress.Progress.{Progress}
-use Rattle.access.specs.Of.{state_of}
+use Rattle.access.specs.Of.{state_of, number_in}
+use Rattle.std.specs.Int.NonZero.{non_zero_u32_get}
+use Rattle.access.specs.declared.block.RegisterBlock.{RegisterBlock}
 use Rattle.access.specs.Does.{Sound, Runs}
-use Rattle.records.specs.declared.Verdict.{Verdict}
-use Rattle.records.specs.Check.{record_at, next_of, out_of_range, windows_fault, Checked, fault, ahead, along, records_in, checked, verdict, chain_of}
-use Rattle.records.proofs.WalkLaws.{fault_at, next_at, from, from_fault, from_last, from_on, passed, whole_empty, whole_from, in_range_lem, sound_windows}
+use Rattle.access.specs.Makes.{Lent, progress_of}
+use Rattle.access.specs.Goes.{GoesOn}
+use Rattle.access.proofs.Makes.{error_ne0, lent_same, lent_then}
+use Rattle.std.specs.Prelude.{Result, Ok, Err, Some}
+use Rattle.config.specs.declared.error.QspiError.{QspiError}
+use Rattle.config.specs.declared.error.QspiError.TheVariants.{Chain}
+use Rattle.records.specs.declared.Fault.{Fault}
+use Rattle.records.specs.declared.record.Record.{Record}
+use Rattle.records.specs.Record.{record_of}
+use Rattle.records.proofs.KindLaws.{stated}
+use Rattle.records.specs.Check.{record_at, next_of, Checked, fault, ahead, along, records_in, checked, verdict, chain_of}
+use Rattle.records.proofs.WalkLaws.{fault_at, next_at, from, from_fault, from_last, from_on, passed, whole_empty, whole_from}
 use Rattle.chain.specs.Chain.{record_steps, chain_steps}
+use Rattle.chain.specs.Of.{steps_of, Fits}
+use Rattle.chain.proofs.ByKind.{stated_steps, stated_fits}
 
 -- a fault is not fine
-faults : Verdict → ℕ
-faults (Verdict.Fault n i) = 1
-faults Verdict.Fine = 0
+faults : Result (Unit {0}) Fault → ℕ
+faults (Err f) = 1
+faults (Ok done) = 0
 
-not_fine : (n i : ℕ) → Verdict.Fault n i ≡ Verdict.Fine → ⊥
+not_fine : (f : Fault) → ◌≡◌ {A = Result (Unit {0}) Fault} (Err f) (Ok tt) → ⊥
 unfolding faults
-not_fine n i e = omega (arith, ap faults e)
+not_fine f e = omega (arith, ap faults e)
 
-fine_eight : (highest memory : ℕ) (ws : List ℕ) → verdict (checked highest memory ws) ≡ Verdict.Fine → length ws % 8 ≡ 0
+fine_eight : (highest memory : ℕ) (ws : List ℕ) → verdict (checked highest memory ws) ≡ Ok tt → length ws % 8 ≡ 0
 unfolding checked
 fine_eight highest memory ws = by (eqb (length ws % 8) 0) refl
   where
-    by : (b : Bool) → eqb (length ws % 8) 0 ≡ b → verdict (cond b (along highest memory (length ws / 8) (records_in (length ws / 8) ws) 1 1) (fault 8 0)) ≡ Verdict.Fine
+    by : (b : Bool) → eqb (length ws % 8) 0 ≡ b
+        → verdict (cond b (along highest memory (length ws / 8) (records_in (length ws / 8) ws) 1 1)
+        (Err (fault Chain 0))) ≡ Ok tt
         → length ws % 8 ≡ 0
     by true e f = eqb-true _ _ e
-    by false e f = absurd (not_fine 8 0 f)
+    by false e f = absurd (not_fine (fault Chain 0) f)
 
-chain_ahead : (r : List ℕ) (c : Checked) → verdict c ≡ Verdict.Fine → chain_of (ahead r c) ≡ r ∷ chain_of c
-chain_ahead r (Checked.fault n i) e = absurd (not_fine n i e)
-chain_ahead r (Checked.chain rs) e = refl
+chain_ahead : (r : List ℕ) (c : Checked) → verdict c ≡ Ok tt → chain_of (ahead r c) ≡ r ∷ chain_of c
+chain_ahead r (Err f) e = absurd (not_fine f e)
+chain_ahead r (Ok rs) e = refl
 
 module _ (hz : ℕ) (qpi : Bool) (highest : ℕ) (ws : List ℕ) where
   pub record Running (limit : ℕ) (answers : List ℕ) (p : Progress) (log m : List ℕ) (r : Progress) (log' m' : List ℕ) (own : ℕ) : Type 0 where
     pub same : length m' ≡ length m
     pub one : 1 ≤ own
     pub most : own ≤ length ws / 8
-    pub fine : verdict (from highest (length m) ws own) ≡ Verdict.Fine
+    pub fine : verdict (from highest (length m) ws own) ≡ Ok tt
     pub sound : Sound r
     pub state :
         advance (chain_steps hz qpi (chain_of (checked highest (length m) ws))) limit answers (state_of p log m)
         ≡ advance (chain_steps hz qpi (chain_of (from highest (length m) ws own))) limit answers (state_of r log' m')
 
   module _ {limit : ℕ} {answers : List ℕ} {p : Progress} {log m : List ℕ} where
-    pub running_none : verdict (checked highest (length m) ws) ≡ Verdict.Fine → length ws / 8 ≡ 0 → Sound p
+    pub running_none : verdict (checked highest (length m) ws) ≡ Ok tt → length ws / 8 ≡ 0 → Sound p
         → Runs (chain_steps hz qpi (chain_of (checked highest (length m) ws))) limit answers p log m p log m
     unfolding chain_steps
     running_none f z few =
         rw (whole_empty highest (length m) ws (fine_eight highest (length m) ws f) z)
         (record { sound = few; state = sym (ended limit answers (state_of p log m)) })
 
-    pub running_starts : verdict (checked highest (length m) ws) ≡ Verdict.Fine → 1 ≤ length ws / 8 → Sound p → Running limit answers p log m p log m 1
+    pub running_starts : verdict (checked highest (length m) ws) ≡ Ok tt → 1 ≤ length ws / 8 → Sound p
+        → Running limit answers p log m p log m 1
     running_starts f h few =
         let w = whole_from highest (length m) ws (fine_eight highest (length m) ws f) in
         record { same = refl; one = omega arith; most = h; fine = ap verdict (sym w) ∙ f; sound = few; state = rw w refl }
 
   module _ {limit : ℕ} {answers : List ℕ} {p r : Progress} {log m log' m' : List ℕ} {own : ℕ} (on : Running limit answers p log m r log' m' own) where
     -- the record has no fault
-    no_fault : fault_at highest (length m) ws own ≡ 0
+    no_fault : fault_at highest (length m) ws own ≡ Ok tt
     no_fault = by (fault_at highest (length m) ws own) refl
       where
-        by : (n : ℕ) → fault_at highest (length m) ws own ≡ n → fault_at highest (length m) ws own ≡ 0
-        by zero e = e
-        by (suc n) e =
-            let f = from_fault highest (length m) ws own on.one on.most (λ z. omega (arith, e, z)) in
-            absurd (not_fine _ own (ap verdict (sym f) ∙ on.fine))
+        by : (a : Result (Unit {0}) QspiError) → fault_at highest (length m) ws own ≡ a
+            → fault_at highest (length m) ws own ≡ Ok tt
+        by (Ok done) e = e
+        by (Err f) e = absurd (not_fine (fault f own)
+            (ap verdict (sym (from_fault highest (length m) ws own f on.one on.most e)) ∙ on.fine))
 
-    pub runs_on : {rec : List ℕ} → rec ≡ record_at ws own → (windows_fault (length m') rec ≡ 0) × (out_of_range rec ≡ false)
-    runs_on e =
-        rw (on.same, e) (
-          sound_windows highest (length m) (length ws / 8) own (record_at ws own) no_fault,
-          in_range_lem highest (length m) (length ws / 8) own (record_at ws own) no_fault,
-        )
+    -- what the code makes of it is a record whose windows lie in the memory
+    pub stated_on : {rec : List ℕ} → rec ≡ record_at ws own
+        → (s : Record) × (record_of rec ≡ Some s) × Fits (length m') s
+    stated_on e =
+        let s = stated highest (length m) (length ws / 8) own (record_at ws own) no_fault in
+        rw (on.same, e) (s.0, s.1, stated_fits (length m) (record_at ws own) s.0 s.1 s.2)
 
     module _ {rec : List ℕ} {t : Progress} {log'' m'' : List ℕ} (e : rec ≡ record_at ws own) (d : Runs (record_steps hz qpi rec) limit answers r log' m' t log'' m'') where
       -- once the record is run, what is left are the records behind it
@@ -94,15 +110,17 @@ module _ (hz : ℕ) (qpi : Bool) (highest : ℕ) (ws : List ℕ) where
       last : next_of rec ≡ 0 → chain_of (from highest (length m) ws own) ≡ record_at ws own ∷ []
       last z = ap chain_of (from_last highest (length m) ws own on.one on.most no_fault (rw e at z))
 
-      further : (next_of rec ≡ 0 → ⊥) → (own < next_of rec) × (next_of rec ≤ length ws / 8) × (verdict (from highest (length m) ws (next_of rec)) ≡ Verdict.Fine)
+      further : (next_of rec ≡ 0 → ⊥) → (own < next_of rec) × (next_of rec ≤ length ws / 8)
+          × (verdict (from highest (length m) ws (next_of rec)) ≡ Ok tt)
           × (chain_of (from highest (length m) ws own) ≡ record_at ws own ∷ chain_of (from highest (length m) ws (next_of rec)))
       further n =
           let f = from_on highest (length m) ws own on.one on.most no_fault (λ z. n (ap next_of e ∙ z)) in
           let rest = from highest (length m) ws (next_at highest (length m) ws own) in
-          let fine : verdict rest ≡ Verdict.Fine = sym (ap verdict f.2 ∙ passed (record_at ws own) rest) ∙ on.fine in
+          let fine : verdict rest ≡ Ok tt = sym (ap verdict f.2 ∙ passed (record_at ws own) rest) ∙ on.fine in
           rw e (f.0, f.1, fine, ap chain_of f.2 ∙ chain_ahead (record_at ws own) rest fine)
 
-      pub running_stops : (t.number ≡ 0 → ⊥) → Runs (chain_steps hz qpi (chain_of (checked highest (length m) ws))) limit answers p log m t log'' m''
+      pub running_stops : (number_in t ≡ 0 → ⊥)
+          → Runs (chain_steps hz qpi (chain_of (checked highest (length m) ws))) limit answers p log m t log'' m''
       running_stops n = record { sound = d.sound; state = sym (by (next_of rec) refl) }
         where
           by : (k : ℕ) → next_of rec ≡ k → advance (chain_steps hz qpi (chain_of (checked highest (length m) ws))) limit answers (state_of p log m) ≡ state_of t log'' m''
@@ -127,3 +145,59 @@ module _ (hz : ℕ) (qpi : Bool) (highest : ℕ) (ws : List ℕ) where
             sound = d.sound;
             state = behind _ f.3;
           }
+
+-- The same at a register block.
+module _ (rate : ℕ) (qpi : Bool) (highest : ℕ) (ws : List ℕ) where
+  pub record RunningOn (b : RegisterBlock) (m : List ℕ) (r : RegisterBlock) (m' : List ℕ) (own : ℕ) : Type 0 where
+    pub lent : Lent b r
+    pub runs :
+        Running rate qpi highest ws (non_zero_u32_get b.limit) b.answers.words.now (progress_of (Ok tt) b) b.log.now m
+        (progress_of (Ok tt) r) r.log.now m' own
+
+  pub none_on : (b : RegisterBlock) (m : List ℕ) → verdict (checked highest (length m) ws) ≡ Ok tt → length ws / 8 ≡ 0
+      → GoesOn (chain_steps rate qpi (chain_of (checked highest (length m) ws))) b m b m (Ok tt)
+  none_on b m f z = record { lent = lent_same b; runs = running_none rate qpi highest ws f z b.sound }
+
+  pub starts_on : (b : RegisterBlock) (m : List ℕ) → verdict (checked highest (length m) ws) ≡ Ok tt → 1 ≤ length ws / 8
+      → RunningOn b m b m 1
+  starts_on b m f h = record { lent = lent_same b; runs = running_starts rate qpi highest ws f h b.sound }
+
+  pub made_on : {b r : RegisterBlock} {m m' rec : List ℕ} {own : ℕ} → RunningOn b m r m' own → rec ≡ record_at ws own
+      → (s : Record) × (record_of rec ≡ Some s) × Fits (length m') s
+  made_on on e = stated_on rate qpi highest ws on.runs e
+
+  module _ {b r : RegisterBlock} {m m' : List ℕ} {own : ℕ} (on : RunningOn b m r m' own) {rec : List ℕ}
+      (e : rec ≡ record_at ws own)
+      {s : Record} (h : record_of rec ≡ Some s) {t : RegisterBlock} {m'' : List ℕ} where
+    ran : {a : Result (Unit {0}) QspiError} → GoesOn (steps_of rate qpi s) r m' t m'' a
+        → Runs (record_steps rate qpi rec) (non_zero_u32_get b.limit) b.answers.words.now (progress_of (Ok tt) r)
+        r.log.now m' (progress_of a t) t.log.now m''
+    ran d = rw (stated_steps rate qpi rec s h) (rw (on.lent.answers, on.lent.limit) at d.runs)
+
+    pub stops_on : {a : QspiError} → GoesOn (steps_of rate qpi s) r m' t m'' (Err a)
+        → GoesOn (chain_steps rate qpi (chain_of (checked highest (length m) ws))) b m t m'' (Err a)
+    stops_on {a} d =
+        record {
+          lent = lent_then on.lent d.lent;
+          runs = running_stops rate qpi highest ws on.runs e (ran d) (error_ne0 a);
+        }
+
+    pub ends_on : GoesOn (steps_of rate qpi s) r m' t m'' (Ok tt) → next_of rec ≡ 0
+        → GoesOn (chain_steps rate qpi (chain_of (checked highest (length m) ws))) b m t m'' (Ok tt)
+    ends_on d z =
+        record {
+          lent = lent_then on.lent d.lent;
+          runs = running_ends rate qpi highest ws on.runs e (ran d) z;
+        }
+
+    pub less_on : GoesOn (steps_of rate qpi s) r m' t m'' (Ok tt) → (next_of rec ≡ 0 → ⊥)
+        → length ws / 8 - next_of rec < length ws / 8 - own
+    less_on d n = running_less rate qpi highest ws on.runs e (ran d) n
+
+    pub goes_further : GoesOn (steps_of rate qpi s) r m' t m'' (Ok tt) → (next_of rec ≡ 0 → ⊥) → length m'' ≡ length m'
+        → RunningOn b m t m'' (next_of rec)
+    goes_further d n l =
+        record {
+          lent = lent_then on.lent d.lent;
+          runs = running_on rate qpi highest ws on.runs e (ran d) n l;
+        }

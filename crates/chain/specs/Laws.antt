@@ -3,7 +3,8 @@ use Rattle.std.specs.Prelude.{◌≡◌, Bool, true, false, not, ◌&&◌, List,
 use Rattle.model.specs.State.{State, begun, with_number}
 use Rattle.model.specs.Limit.{Ended, AgainCall}
 use Rattle.records.specs.Kinds.{kind_of}
-use Rattle.records.specs.Check.{any, checked}
+use Rattle.std.specs.List.{list_any}
+use Rattle.records.specs.Check.{checked}
 use Rattle.records.specs.Laws.{Alike}
 use Rattle.chain.specs.Chain.{record_steps}
 use Rattle.chain.specs.Transaction.{Request, refusal, outcome, transaction}
@@ -45,7 +46,7 @@ of_each p = map (λ kind. map (p kind) (1 ∷ 2 ∷ 3 ∷ 4 ∷ 5 ∷ 6 ∷ []))
 
 -- The fields that the table of kinds has as used are those that matter.
 abbrev pub UsedFields : Type 0
-UsedFields = of_each (λ kind f. any (eqb f) (kind_of kind).used) ≡ of_each matters
+UsedFields = of_each (λ kind f. list_any (eqb f) (kind_of kind).used) ≡ of_each matters
 
 -- a chain of one flush, whose first poll is unready
 abbrev pub flushed : ℕ → State

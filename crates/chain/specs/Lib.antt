@@ -1,4 +1,5 @@
 pub mod Chain
+pub mod Of
 pub mod Transaction
 pub mod Laws
 pub mod Polls

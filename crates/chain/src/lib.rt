@@ -1,99 +1,81 @@
 // Chains of records, checked whole and then run.
 #![tactic(auto)]
 
-ghost use Rattle.std.specs.Prelude.{◌≡◌, ◌<◌, length};
-ghost use Rattle.records.specs.declared.Verdict as declared;
+ghost use Rattle.std.specs.Prelude.{◌≡◌, Ok, length};
 ghost use Rattle.records.specs.Check.{checked, verdict, chain_of};
-ghost use Rattle.access.specs.Does.{Sound, Runs};
+ghost use Rattle.access.specs.Of.{Refuses};
+ghost use Rattle.access.specs.Goes.{GoesOn};
 ghost use Rattle.chain.specs.Chain.{chain_steps};
 ghost use Rattle.chain.specs.Transaction.{refusal, Transacts};
 ghost use Rattle.chain.specs.Transaction.{transaction as Transaction·transaction};
+ghost use Rattle.chain.specs.Of.{request_of, found_in};
 
-use access::Progress;
-use config::number;
-use records::Verdict;
+use access::{Progress, RegisterBlock};
+use config::QspiError;
+use records::Record;
+use std::num::NonZeroU32;
 
 pub mod record;
+pub mod request;
 
-// Runs a chain in which no fault was found with kinds up to `highest`.
+pub use request::Request;
+
+// Runs a chain in which no fault was found.
 fn run_chain(
-    limit: u32,
-    hz: u32,
-    qpi: bool,
-    highest: u32,
-    progress: Progress,
-    log: &mut [u32],
-    answers: &[u32],
+    block: &mut RegisterBlock<'_>,
     memory: &mut [u8],
-    words: &[u32],
-) -> Progress
-    requires sound { Sound progress }
-    requires limit_nonzero { 0 < limit }
-    requires words_value { verdict (checked highest (length memory.old) words.now) ≡ declared.Verdict.Fine }
-    ensures { Runs (chain_steps hz qpi (chain_of (checked highest (length memory.old) words.now))) limit answers.now progress log.old memory.old result log.new memory.new }
+    request: Request<'_>,
+) -> Result<(), QspiError>
+    requires { verdict (found_in request (length memory.old)) ≡ Ok tt }
+    ensures { GoesOn (chain_steps request.entry.rate request.entry.qpi (chain_of (found_in request.entry (length memory.old)))) block.old memory.old block.new memory.new result }
 {
-    let mut current = progress;
+    let words = request.words;
     if words.len() / 8 == 0 {
-        return current;
+        return Ok(());
     }
     let mut own: usize = 1;
     loop {
         let r = records::record_at(words, own);
-        current = record::run_record(limit, hz, qpi, current, log, answers, memory, r);
-        let number = current.number;
-        if number != 0 {
-            return current;
-        }
+        let record = Record::of(r).unwrap();
+        record::run_record(block, memory, request.rate, request.qpi, record)?;
         let next = r[7] as usize;
         if next == 0 {
-            return current;
+            return Ok(());
         }
         own = next;
     }
 }
 
-// 7, then the number of the first fault along the chain; else 0.
-fn refused(limit: u32, words: &[u32], highest: u32, memory: usize) -> u32
-    ensures { result ≡ refusal limit (checked highest memory words.now) }
+// 7, then the first fault along the chain; else the limit.
+fn refused(limit: u32, request: Request<'_>, memory: usize) -> Result<NonZeroU32, QspiError>
+    ensures { Refuses limit (refusal limit (found_in request.entry memory)) result }
 {
-    if limit == 0 {
-        return number::LIMIT;
-    }
-    let found = records::check(words, highest, memory);
-    match found {
-        Verdict::Fine => number::DONE,
-        Verdict::Fault { number, record: _ } => number,
+    let Some(limit) = NonZeroU32::new(limit) else {
+        return Err(QspiError::Limit);
+    };
+    match records::check(request.words, request.highest, memory) {
+        Ok(()) => Ok(limit),
+        Err(fault) => Err(fault.error),
     }
 }
 
-// A chain of kinds up to `highest`: the whole of it is checked before any access. `hz`: the rate of the bus; `qpi`: the chip has QPI.
+// A chain: the whole of it is checked before any access.
 pub fn transact(
     limit: u32,
-    hz: u32,
-    qpi: bool,
-    highest: u32,
     log: &mut [u32],
     answers: &[u32],
     memory: &mut [u8],
-    words: &[u32],
+    request: Request<'_>,
 ) -> Progress
-    ensures { Transacts (record { rate = hz; qpi = qpi; highest = highest; words = words.now }) limit answers.now log.old memory.old result log.new memory.new }
+    ensures { Transacts (request_of request.entry) limit answers.now log.old memory.old result log.new memory.new }
 {
-    let refused = refused(limit, words, highest, memory.len());
-    if refused != 0 {
-        return Progress::new().ended(refused);
-    }
-    run_chain(
-        limit,
-        hz,
-        qpi,
-        highest,
-        Progress::new(),
-        log,
-        answers,
-        memory,
-        words,
-    )
+    let limit = match refused(limit, request, memory.len()) {
+        Ok(limit) => limit,
+        Err(error) => return Progress::refused(error),
+    };
+    let mut block = RegisterBlock::new(limit, log, answers);
+    let ended = run_chain(&mut block, memory, request);
+    block.progress(ended)
 }
 
 // Operations on the lent memory, one after the other: a chain of kinds 1 to 5.
@@ -106,5 +88,11 @@ pub fn transaction(
 ) -> Progress
     ensures { Transacts (Transaction·transaction words.now) limit answers.now log.old memory.old result log.new memory.new }
 {
-    transact(limit, 0, false, 5, log, answers, memory, words)
+    let request = Request {
+        rate: 0,
+        qpi: false,
+        highest: 5,
+        words,
+    };
+    transact(limit, log, answers, memory, request)
 }

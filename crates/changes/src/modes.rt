@@ -2,10 +2,11 @@
 ghost use Rattle.std.specs.Prelude.{◌≡◌, cond};
 ghost use Rattle.model.specs.Field.{set_field};
 ghost use Rattle.model.specs.Steps.{change};
-ghost use Rattle.access.specs.Does.{Sound, Works};
+ghost use Rattle.access.specs.Makes.{Makes};
 ghost use Rattle.changes.specs.Of.{lined};
 
-use access::{Act, Ask, Progress};
+use access::RegisterBlock;
+use config::QspiError;
 use registers::{TransMiscControl, TransferConfig};
 
 // The data lines.
@@ -23,22 +24,20 @@ impl Lines {
     fn apply(self, word: u32) -> u32
         ensures { result ≡ lined self word }
     {
+        let control = TransMiscControl(word);
         match self {
-            Lines::One => TransMiscControl(word).disable_quad().disable_dual().0,
-            Lines::Two => TransMiscControl(word).disable_quad().enable_dual().0,
-            Lines::Four => TransMiscControl(word).enable_quad().disable_dual().0,
-            Lines::Qpi => TransMiscControl(word).enable_quad().enable_qpi().0,
+            Lines::One => control.disable_quad().disable_dual().0,
+            Lines::Two => control.disable_quad().enable_dual().0,
+            Lines::Four => control.enable_quad().disable_dual().0,
+            Lines::Qpi => control.enable_quad().enable_qpi().0,
         }
     }
 }
 
-pub fn set_lines(progress: Progress, log: &mut [u32], answers: &[u32], lines: Lines) -> Progress
-    requires { Sound progress }
-    ensures { Works (change 0x038 (lined lines)) answers.now progress log.old result log.new }
+pub fn set_lines(block: &mut RegisterBlock<'_>, lines: Lines) -> Result<(), QspiError>
+    ensures { Makes (change 0x038 (lined lines)) block.old block.new result }
 {
-    let read = access::entry::query(progress, log, answers, Ask::Register(0x038));
-    let word = lines.apply(read.word);
-    access::entry::perform(read.progress, log, Act::Write(0x038, word))
+    block.modify(0x038, |word| lines.apply(word))
 }
 
 // A word with three-wire on or off.
@@ -51,11 +50,8 @@ fn wired(word: u32, on: bool) -> u32
     TransferConfig(word).disable_three_wire().0
 }
 
-pub fn set_three_wire(progress: Progress, log: &mut [u32], answers: &[u32], on: bool) -> Progress
-    requires { Sound progress }
-    ensures { Works (change 0x008 (set_field 25 1 (cond on 1 0))) answers.now progress log.old result log.new }
+pub fn set_three_wire(block: &mut RegisterBlock<'_>, on: bool) -> Result<(), QspiError>
+    ensures { Makes (change 0x008 (set_field 25 1 (cond on 1 0))) block.old block.new result }
 {
-    let read = access::entry::query(progress, log, answers, Ask::Register(0x008));
-    let word = wired(read.word, on);
-    access::entry::perform(read.progress, log, Act::Write(0x008, word))
+    block.modify(0x008, |word| wired(word, on))
 }

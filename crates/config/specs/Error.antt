@@ -36,6 +36,6 @@ error_text Divider = codes "divider"
 error_text Sheet = codes "sheet"
 
 -- 0 done, else the error's number
-abbrev pub ended_number : Result Unit QspiError → ℕ
-ended_number (Ok done) = 0
+abbrev pub ended_number : {T : Type 0} → Result T QspiError → ℕ
+ended_number (Ok x) = 0
 ended_number (Err error) = error_number error

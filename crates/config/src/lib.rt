@@ -1,9 +1,8 @@
-// Configuration, errors, and document 01's numbers.
+// Configuration, and errors with document 01's numbers.
 #![tactic(auto)]
 
 pub mod config;
 pub mod error;
-pub mod number;
 pub mod spi;
 
 pub use config::{CsConfig, QspiConfig, WorkMode};

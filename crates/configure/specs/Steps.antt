@@ -40,16 +40,11 @@ abbrev pub bit6 : Option CsConfig → ℕ
 bit6 None = 1
 bit6 (Some cs) = 0
 
--- bits 2, 7 and 4 to 5 as a chip-select record has them
-abbrev pub selected : CsConfig → ℕ → ℕ
-selected cs w =
-    set_field 4 2 (cs_pin_bits cs.pin)
-    (set_field 7 1 (cs_level_bits cs.level) (set_field 2 1 (polarity_bits cs.polarity) w))
-
--- with such a record 008 again for these
+-- with such a record 008 again for bits 2, 7 and 4 to 5
 unfoldable pub chip_select : Option CsConfig → Steps
 chip_select None = end done
-chip_select (Some cs) = change 0x008 (selected cs)
+chip_select (Some cs) =
+    change 0x008 (λ w. set_field 4 2 (cs_pin_bits cs.pin) (set_field 7 1 (cs_level_bits cs.level) (set_field 2 1 (polarity_bits cs.polarity) w)))
 
 -- 008 phase, polarity, bit 6, bits 8 and 14 set, bit 12 exactly if LSB first
 unfoldable pub transfer_format : Mode → Option CsConfig → Bool → Steps

@@ -1,4 +1,4 @@
-// What an opening configures, from a progress on: the private functions of blocking.rs that `new` calls.
+// What an opening configures at a register block: the private functions of blocking.rs that `new` calls.
 #![tactic(auto)]
 
 pub mod controller;

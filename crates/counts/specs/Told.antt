@@ -2,10 +2,11 @@
 use Rattle.std.specs.Prelude.{◌≡◌, List, ℕ}
 use Rattle.model.specs.State.{State}
 use Rattle.access.specs.declared.progress.Progress.{Progress}
+use Rattle.access.specs.Of.{number_in}
 
 -- the number and the counts of a progress
 pub record Told (p : Progress) (number entries taken polls longest : ℕ) : Type 0 where
-  pub numbered : number ≡ p.number
+  pub numbered : number ≡ number_in p
   pub made : entries ≡ p.entries
   pub answered : taken ≡ p.taken
   pub polled : polls ≡ p.tally.polls

@@ -15,10 +15,9 @@ pub fn tell(
 ) -> u32
     ensures { Told p result entries.new taken.new polls.new longest.new }
 {
-    let tally = p.tally;
     *entries = p.entries;
     *taken = p.taken;
-    *polls = tally.polls;
-    *longest = tally.longest;
-    p.number
+    *polls = p.tally.polls;
+    *longest = p.tally.longest;
+    p.number()
 }

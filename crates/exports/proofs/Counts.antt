@@ -1,4 +1,4 @@
--- A call's promise, from that of the call below and the counts told.
+-- A call's promise, from that of the call below and the counts told: what the check finds at each call, said once.
 use mathlib.Core.Path.{◌≡◌, ◌∙◌, ap}
 use mathlib.Core.Bool.{Bool}
 use mathlib.Core.List.{List}
@@ -6,7 +6,7 @@ use Prim.Native.Nat.{ℕ}
 use Rattle.model.specs.State.{State}
 use Rattle.access.specs.Of.{state_of}
 use Rattle.access.specs.declared.progress.Progress.{Progress}
-use Rattle.std.specs.Prelude.{Option}
+use Rattle.std.specs.Prelude.{Option, unwrap_or}
 use Rattle.config.specs.declared.config.QspiConfig.{QspiConfig}
 use Rattle.opening.specs.declared.ClockTree.{ClockTree}
 use Rattle.opening.specs.declared.Opened.{Opened}
@@ -24,8 +24,12 @@ module _ {log' : List ℕ} {p : Progress} {number entries taken polls longest : 
 
 pub opening_gives : {found : Option QspiConfig} {instance : ℕ} {qpi : Bool} {tree : ClockTree} {limit : ℕ}
     {answers log log' : List ℕ}
-    {r : Opened} {number entries taken polls longest : ℕ} → Told r.progress number entries taken polls longest
+    {r : Opened} {rate number entries taken polls longest : ℕ} → Told r.progress number entries taken polls longest
+    → rate ≡ unwrap_or r.sck_hz 0
     → OpensFound found instance qpi tree limit answers log r log'
-    → GivesOpening found instance qpi tree limit answers log log' r.sck_hz number entries taken polls longest
-opening_gives {log' = log'} {r = r} t d =
-    record { result = λ m. ap (λ st. record { state = st; rate = r.sck_hz }) (told_state t log' m) ∙ d.result m }
+    → GivesOpening found instance qpi tree limit answers log log' rate number entries taken polls longest
+opening_gives {log' = log'} {r = r} t e d =
+    rw e (record {
+      result = λ m. ap (λ st. record { state = st; rate = unwrap_or r.sck_hz 0 }) (told_state t log' m)
+          ∙ d.result m;
+    })

@@ -51,7 +51,7 @@ pub fn qspi_open(
     };
     let found = numbers.config();
     let opened = numbered::open_found(instance, qpi, limit, log, answers, found, pll_hz, osc_hz);
-    *sck_hz = opened.sck_hz;
+    *sck_hz = opened.sck_hz.unwrap_or(0);
     tell(opened.progress, entries, taken, polls, longest)
 }
 

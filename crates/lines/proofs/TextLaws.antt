@@ -5,7 +5,7 @@ use mathlib.Core.Bool.{Bool, true, false, cond}
 use mathlib.Core.List.{List, [], ◌∷◌, ◌++◌, append_assoc, append-nil}
 use native.Mathlib.Omega.{arith}
 use native.Mathlib.Decide.{dec_lt, dec_le}
-use native.Mathlib.Nat.{add_assoc, pow-le-pow_right}
+use native.Mathlib.Nat.{add_assoc, add-sub_cancel_left, pow-le-pow_right}
 use lib.ListN.{length, get_or, take, drop, length-append, length-drop, length-take}
 use lib.Seq.{take_at, drop_at, drop-drop, length-take-le, get_or-drop}
 use Rattle.std.proofs.lemmas.List.{get_or-take}
@@ -58,6 +58,15 @@ module _ {d d' : List ℕ} {at at' : ℕ} {x : List ℕ} (w : Wrote d at d' at' 
 pub wrote_start : (d : List ℕ) → Wrote d 0 d 0 []
 wrote_start d = record { text = refl; place = refl; room = omega arith }
 
+-- a part of a list that becomes another of its length is a write
+pub wrote_part :
+    (d s ys : List ℕ) (at : ℕ)
+    → at + length s ≤ length d
+    → ys ≡ s
+    → Wrote d at (take at d ++ (ys ++ drop (at + length s - at) (drop at d))) (at + length s) s
+wrote_part d s ys at h e =
+    record { text = rw (e, add-sub_cancel_left, drop-drop (length s) at d) refl; place = refl; room = h }
+
 -- the same of a writer: one text after another, and a text that is equal
 pub puts_then : {w w' w'' : Writer} {x y : List ℕ} → Puts w w' x → Puts w' w'' y → Puts w w'' (x ++ y)
 puts_then p q = record { same = q.same ∙ p.same; wrote = wrote_then p.wrote q.wrote }
@@ -109,7 +118,11 @@ hex_width n w r p m h f = go (dec_lt w r)
   where
     go : Dec (w < r) → r ≡ w
     go (yes q) =
-        absurd (omega (arith, f.2 (omega arith), pow-le-pow_right {n = 16} (omega arith) {i = w} {j = r - 1} (omega arith)))
+        absurd (omega (
+          arith,
+          f.2 (omega arith),
+          pow-le-pow_right {n = 16} (omega arith) {i = w} {j = r - 1} (omega arith),
+        ))
     go (no q) = omega (arith, f.0)
 
 -- the lines of one entry more

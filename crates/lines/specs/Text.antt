@@ -2,6 +2,7 @@
 use Rattle.std.specs.Prelude.{ℕ, zero, suc, ◌+◌, ◌*◌, ◌/◌, ◌%◌, ◌^◌, ◌≤◌, cond, List, [], ◌∷◌, ◌++◌, ◌≡◌, length, get_or, take, drop, leb}
 use Rattle.io.specs.Digits.{last_digits}
 use Rattle.access.specs.declared.progress.Progress.{Progress}
+use Rattle.access.specs.Of.{number_in}
 
 -- the letters of the ops 1 to 5: r, w, b, g, d
 abbrev pub letter_of : ℕ → ℕ
@@ -26,19 +27,37 @@ places (suc k) n = cond (leb (10 ^ suc k) n) (suc (suc k)) (places k n)
 unfoldable pub number : ℕ → List ℕ
 number n = 32 ∷ last_digits 10 (places 19 n) n
 
+-- how a run ended: its number and its four counts
+pub record Ending : Type 0 where
+  pub number : ℕ
+  pub entries : ℕ
+  pub taken : ℕ
+  pub polls : ℕ
+  pub longest : ℕ
+
+abbrev pub ending_of : Progress → Ending
+ending_of p =
+    record {
+      number = number_in p;
+      entries = p.entries;
+      taken = p.taken;
+      polls = p.tally.polls;
+      longest = p.tally.longest;
+    }
+
 -- the last line: `end`, number, entries, answers, polls, longest
-unfoldable pub end_line : Progress → List ℕ
+unfoldable pub end_line : Ending → List ℕ
 end_line e =
     (101 ∷ 110 ∷ 100 ∷ [])
     ++ (number e.number
     ++ (number e.entries
     ++ (number e.taken
-    ++ (number e.tally.polls
-    ++ (number e.tally.longest
+    ++ (number e.polls
+    ++ (number e.longest
     ++ (10 ∷ []))))))
 
 -- all that is printed of a log and how its run ended
-abbrev pub printed : List ℕ → Progress → List ℕ
+abbrev pub printed : List ℕ → Ending → List ℕ
 printed log e = entry_lines (take (2 * e.entries) log) ++ end_line e
 
 -- the list d with x written at `at`

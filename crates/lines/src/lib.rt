@@ -3,7 +3,7 @@
 
 ghost use Rattle.std.specs.Prelude.{◌≡◌, ◌+◌, ◌*◌, ◌^◌, ◌≤◌, ◌<◌, length};
 ghost use Rattle.io.specs.Digits.{last_digits};
-ghost use Rattle.lines.specs.Text.{letter_of, entry_line, number, end_line, printed, Wrote};
+ghost use Rattle.lines.specs.Text.{letter_of, entry_line, number, end_line, ending_of, printed, Wrote};
 ghost use Rattle.lines.specs.Writer.{Puts};
 
 use access::Progress;
@@ -65,10 +65,10 @@ impl Writer<'_> {
     // The last line.
     fn put_end(&mut self, end: Progress)
         requires { self.old.len + 128 ≤ length self.old.buffer.now }
-        ensures { Puts self.old self.new (end_line end) }
+        ensures { Puts self.old self.new (end_line (ending_of end)) }
     {
         self.put(b"end");
-        self.put_number(end.number as u64);
+        self.put_number(end.number() as u64);
         self.put_number(end.entries as u64);
         self.put_number(end.taken as u64);
         self.put_number(end.tally.polls as u64);
@@ -95,7 +95,7 @@ fn letter(op: u32) -> u8
 pub fn render(out: &mut [u8], log: &[u32], end: Progress) -> usize
     requires entries_in_bounds { 2 * end.entries ≤ length log.now }
     requires entries_in_bounds_2 { 16 * end.entries + 128 ≤ length out.old }
-    ensures { Wrote out.old 0 out.new result (printed log.now end) }
+    ensures { Wrote out.old 0 out.new result (printed log.now (ending_of end)) }
 {
     let (entries, _) = log.as_chunks::<2>();
     let mut lines = Writer {

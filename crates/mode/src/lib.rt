@@ -1,26 +1,24 @@
 // The work mode of a bus, from blocking.rs.
 #![tactic(auto)]
 
-ghost use Rattle.std.specs.Prelude.{◌≡◌, ◌<◌};
-ghost use Rattle.access.specs.Does.{Sound, Does, Works};
-ghost use Rattle.mode.specs.Mode.{qpi_mode, work_mode_steps};
+ghost use Rattle.std.specs.Prelude.{◌≡◌};
+ghost use Rattle.access.specs.Makes.{Makes};
+ghost use Rattle.access.specs.Goes.{Goes};
+ghost use Rattle.mode.specs.Mode.{qpi_mode, mode_changes, work_mode_steps};
 ghost use Rattle.mode.specs.Of.{data_lines, three_wire};
 
-use access::Progress;
+use access::RegisterBlock;
 use changes::Lines;
-use config::{WorkMode, number};
+use config::{QspiError, WorkMode};
 
 // The data lines of a mode.
 fn data_lines(mode: WorkMode) -> Lines
     ensures { result ≡ data_lines mode }
 {
     match mode {
-        WorkMode::Standard => Lines::One,
-        WorkMode::ThreeWire => Lines::One,
-        WorkMode::Dual => Lines::Two,
-        WorkMode::DualIO => Lines::Two,
-        WorkMode::Quad => Lines::Four,
-        WorkMode::QuadIO => Lines::Four,
+        WorkMode::Standard | WorkMode::ThreeWire => Lines::One,
+        WorkMode::Dual | WorkMode::DualIO => Lines::Two,
+        WorkMode::Quad | WorkMode::QuadIO => Lines::Four,
         WorkMode::Qpi => Lines::Qpi,
     }
 }
@@ -29,49 +27,39 @@ fn data_lines(mode: WorkMode) -> Lines
 fn three_wire(mode: WorkMode) -> bool
     ensures { result ≡ three_wire mode }
 {
-    match mode {
-        WorkMode::Standard => false,
-        WorkMode::ThreeWire => true,
-        WorkMode::Dual => false,
-        WorkMode::DualIO => false,
-        WorkMode::Quad => false,
-        WorkMode::QuadIO => false,
-        WorkMode::Qpi => false,
-    }
+    matches!(mode, WorkMode::ThreeWire)
 }
 
 // 2 on a chip without QPI.
-fn set_qpi_mode(qpi: bool, progress: Progress, log: &mut [u32], answers: &[u32]) -> Progress
-    requires { Sound progress }
-    ensures { Works (qpi_mode qpi) answers.now progress log.old result log.new }
+fn set_qpi_mode(block: &mut RegisterBlock<'_>, qpi: bool) -> Result<(), QspiError>
+    ensures { Makes (qpi_mode qpi) block.old block.new result }
 {
     if qpi {
-        return changes::modes::set_lines(progress, log, answers, Lines::Qpi);
+        changes::modes::set_lines(block, Lines::Qpi)
+    } else {
+        Err(QspiError::Unsupported)
     }
-    let number = progress.number;
-    if number != 0 {
-        return progress;
+}
+
+// What a mode changes. `qpi`: the chip has QPI.
+fn change_mode(block: &mut RegisterBlock<'_>, qpi: bool, mode: WorkMode) -> Result<(), QspiError>
+    ensures { Makes (mode_changes qpi mode) block.old block.new result }
+{
+    if mode.is_qpi() {
+        return set_qpi_mode(block, qpi);
     }
-    progress.ended(number::UNSUPPORTED)
+    changes::modes::set_lines(block, data_lines(mode))?;
+    changes::modes::set_three_wire(block, three_wire(mode))
 }
 
 // Waits for the transfer to complete, then changes the mode. `qpi`: the chip has QPI.
 pub fn set_work_mode(
-    limit: u32,
+    block: &mut RegisterBlock<'_>,
     qpi: bool,
-    progress: Progress,
-    log: &mut [u32],
-    answers: &[u32],
     mode: WorkMode,
-) -> Progress
-    requires sound { Sound progress }
-    requires limit_nonzero { 0 < limit }
-    ensures { Does (work_mode_steps qpi mode) limit answers.now progress log.old result log.new }
+) -> Result<(), QspiError>
+    ensures { Goes (work_mode_steps qpi mode) block.old block.new result }
 {
-    let idle = waits::wait_transfer_done(limit, progress, log, answers);
-    if mode.is_qpi() {
-        return set_qpi_mode(qpi, idle, log, answers);
-    }
-    let lined = changes::modes::set_lines(idle, log, answers, data_lines(mode));
-    changes::modes::set_three_wire(lined, log, answers, three_wire(mode))
+    waits::wait_transfer_done(block)?;
+    change_mode(block, qpi, mode)
 }

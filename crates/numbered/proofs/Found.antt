@@ -8,7 +8,10 @@ use Rattle.config.specs.declared.config.WorkMode.{WorkMode}
 use Rattle.std.specs.Prelude.{Option, Some, None}
 use Rattle.config_numbers.specs.Limit.{no_mode}
 use Rattle.access.specs.declared.progress.Progress.{Progress}
-use Rattle.access.specs.Of.{begun, with_number}
+use Rattle.access.specs.Of.{refused}
+use Rattle.config.specs.declared.error.QspiError.{QspiError}
+use Rattle.config.specs.declared.error.QspiError.TheVariants.{Chain}
+use Rattle.config.specs.Error.{error_number}
 use Rattle.bus.specs.Calls.{Call}
 use Rattle.bus.specs.Does.{Called}
 use Rattle.opening.specs.declared.ClockTree.{ClockTree}
@@ -22,9 +25,9 @@ module _ {found : Option WorkMode} {qpi : Bool} {limit : ℕ} {answers log : Lis
       → CalledMode found qpi limit answers log p log'
   called_mode e d = rw e (record { state = d.state })
 
-  pub called_none : {new : Progress} {n : ℕ} → found ≡ None → new ≡ begun → n ≡ no_mode limit → p ≡ with_number n new
+  pub called_none : {error : QspiError} → found ≡ None → error_number error ≡ no_mode limit → p ≡ refused error
       → CalledMode found qpi limit answers log p log
-  called_none e b k q = rw (e, q, b, k) (record { state = λ m. refl })
+  called_none e k q = rw (e, q) (record { state = λ m. rw (← k) refl })
 
 module _ {found : Option QspiConfig} {instance : ℕ} {qpi : Bool} {tree : ClockTree} {limit : ℕ}
     {answers log : List ℕ} where
@@ -33,6 +36,6 @@ module _ {found : Option QspiConfig} {instance : ℕ} {qpi : Bool} {tree : Clock
       → OpensFound found instance qpi tree limit answers log r log'
   found_known e d = rw e (record { result = d.result })
 
-  pub found_none : {new p : Progress} → found ≡ None → new ≡ begun → p ≡ with_number 8 new
-      → OpensFound found instance qpi tree limit answers log (record { progress = p; sck_hz = 0 }) log
-  found_none e b q = rw (e, q, b) (record { result = λ m. refl })
+  pub found_none : {p : Progress} → found ≡ None → p ≡ refused Chain
+      → OpensFound found instance qpi tree limit answers log (record { progress = p; sck_hz = None }) log
+  found_none e q = rw (e, q) (record { result = λ m. refl })

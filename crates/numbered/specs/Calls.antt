@@ -22,8 +22,8 @@ opening_outcome (Some config) instance qpi tree limit answers log m =
     opens (opening_of instance qpi config tree) limit answers log m
 opening_outcome None instance qpi tree limit answers log m = record { state = with_number 8 (begun log m); rate = 0 }
 
-pub record CalledMode (found : Option WorkMode) (qpi : Bool) (limit : ℕ) (answers log : List ℕ)
-    (r : Progress) (log' : List ℕ) : Type 0 where
+pub record CalledMode (found : Option WorkMode) (qpi : Bool) (limit : ℕ) (answers log : List ℕ) (r : Progress)
+    (log' : List ℕ) : Type 0 where
   pub state : (m : List ℕ) → state_of r log' m ≡ mode_outcome found qpi limit answers log m
 
 pub record OpensFound (found : Option QspiConfig) (instance : ℕ) (qpi : Bool) (tree : ClockTree) (limit : ℕ)

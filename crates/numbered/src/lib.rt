@@ -20,7 +20,7 @@ pub fn set_numbered_mode(
 {
     match WorkMode::from_number(mode) {
         Some(known) => bus::work_mode::set_work_mode(limit, qpi, log, answers, known),
-        None => Progress::new().ended(config_numbers::no_mode(limit).number()),
+        None => Progress::refused(config_numbers::no_mode(limit)),
     }
 }
 
@@ -46,8 +46,8 @@ pub fn open_found(
             opening::open(instance, qpi, limit, log, answers, config, clock_tree)
         }
         None => Opened {
-            progress: Progress::new().ended(QspiError::Chain.number()),
-            sck_hz: 0,
+            progress: Progress::refused(QspiError::Chain),
+            sck_hz: None,
         },
     }
 }

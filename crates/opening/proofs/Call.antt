@@ -6,6 +6,12 @@ use Prim.Native.Nat.{ℕ, ◌≤◌, ◌<◌}
 use native.Mathlib.Omega.{arith}
 use lib.Dec.{eqb, ltb}
 use borrow.Author.Tests.{ne_eqb, ltb-false}
+use Rattle.std.proofs.Common.{Bor, MutBor}
+use Rattle.std.specs.Prelude as std
+use Rattle.std.specs.Prelude.{Ok, Err, Some, None, unwrap_or}
+use Rattle.model.specs.Steps.{Steps}
+use Rattle.model.specs.State as state
+use Rattle.model.specs.State.{advance}
 use Rattle.model.proofs.Called.{called_refused, called_runs}
 use Rattle.config.specs.Spi.{supported}
 use Rattle.config.specs.Config.{is_qpi}
@@ -15,16 +21,22 @@ use Rattle.clock.specs.declared.Choice.{Choice}
 use Rattle.clock.specs.Rank.{choice}
 use Rattle.clock.specs.Answer.{sck}
 use Rattle.clock.specs.Dummies.{clamped}
+use Rattle.config.specs.declared.error.QspiError.{QspiError}
 use Rattle.access.specs.declared.progress.Progress.{Progress}
-use Rattle.access.specs.Of.{begun, with_number}
+use Rattle.std.specs.declared.num.NonZeroU32.{NonZeroU32}
+use Rattle.access.specs.declared.block.RegisterBlock.{RegisterBlock}
+use Rattle.access.specs.Of.{state_of, number_in, begun, refused, Refuses}
 use Rattle.access.specs.Does.{Works}
+use Rattle.access.proofs.Makes.{error_ne0}
+use Rattle.access.specs.Makes.{Begun, Makes, progress_of}
 use Rattle.opening.specs.Steps.{opening_steps, release_steps}
 use Rattle.opening.specs.declared.Opened.{Opened}
-use Rattle.opening.specs.Call.{Opening, refusal, opening_refusal, rate_of, steps_of, opens, releases, opened_with, Opens, Releases}
+use Rattle.opening.specs.Call.{Opening, refusal, opening_refusal, rate_of, steps_of, opens, releases}
+use Rattle.opening.specs.Call.{no_polls, opened_with, Opens, Releases}
 
 -- What is not refused is an instance up to 3.
-pub accepted : (mode : Mode) (instance : ℕ) (work : WorkMode) (qpi : Bool) (limit : ℕ) {n : ℕ} → n ≡ refusal mode instance work qpi limit → n ≡ 0
-    → instance < 4
+pub accepted : (mode : Mode) (instance : ℕ) (work : WorkMode) (qpi : Bool) (limit : ℕ) {n : ℕ}
+    → n ≡ refusal mode instance work qpi limit → n ≡ 0 → instance < 4
 unfolding refusal
 accepted mode instance work qpi limit r z =
     by (not (supported mode)) (ltb 3 instance) (is_qpi work && not qpi) (eqb limit 0) refl (sym r ∙ z)
@@ -44,23 +56,59 @@ module _ (o : Opening) {target hz : ℕ} {c : Choice} (t : target ≡ clamped o.
   chosen_rate : hz ≡ rate_of o
   chosen_rate = rw (h, e, t) refl
 
-module _ (o : Opening) (limit : ℕ) (answers log : List ℕ) {n : ℕ} (r : n ≡ opening_refusal o limit) where
-  pub refused_opens : {p q : Progress} {d : Opened} → (n ≡ 0 → ⊥) → p ≡ begun → q ≡ with_number n p → d ≡ opened_with 0 q → Opens o limit answers log d log
-  unfolding opens
-  refused_opens i b e f =
-      record { result = λ m. rw (← r, called_refused (steps_of o) limit answers log m i, f, e, b, ne_eqb _ _ i) refl }
+pub refused_opens : (o : Opening) (limit : ℕ) (answers log : List ℕ) {p : Progress} {e : QspiError}
+    → Refuses limit (opening_refusal o limit) (Err e) → p ≡ refused e
+    → Opens o limit answers log (record { progress = p; sck_hz = None }) log
+unfolding opens
+refused_opens o limit answers log {e = e} i q =
+    let z = error_ne0 e in
+    record {
+      result = λ m. rw (← i.is, called_refused (steps_of o) limit answers log m z, q, ne_eqb _ _ z) refl;
+      given = rw (q, ne_eqb _ _ z) refl;
+    }
 
-  pub runs_opens : {p q : Progress} {target hz : ℕ} {c : Choice} {d : Opened} {log' : List ℕ} → n ≡ 0 → p ≡ begun → target ≡ clamped o.config.freq
+given_rate : (b : Bool) (hz : ℕ) → unwrap_or (cond b (Some hz) None) 0 ≡ cond b hz 0
+given_rate true hz = refl
+given_rate false hz = refl
+
+-- What was done from no entry and the first answer on.
+module _ {x : MutBor (List ℕ)} {y : Bor (List ℕ)} {b r : RegisterBlock}
+    {l : NonZeroU32} (begins : Begun l x y b)
+    {s : Steps} {ended : std.Result (Unit {0}) QspiError} (made : Makes s b r ended)
+    {p : Progress} (q : p ≡ progress_of ended r) {log' : List ℕ} (left : r.log.now ≡ log') where
+  from_begun : (limit : ℕ) (m : List ℕ) → state_of p log' m ≡ advance s limit y.now (state.begun x.now m)
+  from_begun limit m =
+      let tally : r.tally ≡ no_polls = made.tally ∙ begins.tally in
+      rw (q, tally, ← left) (rw (
+        begins.log,
+        begins.entries,
+        begins.answers,
+      ) at (((made.works no_polls (omega arith)).does limit).state m))
+
+  pub runs_opens : (o : Opening) (limit : ℕ) {target hz : ℕ} {c : Choice} {d : Opened}
+      → Refuses limit (opening_refusal o limit) (Ok l) → target ≡ clamped o.config.freq
       → c ≡ choice o.pll target → hz ≡ (sck o.pll c.mod_div c.divider).hz
-      → Works (opening_steps o.instance c.mod_div c.divider hz o.oscillator o.config) answers p log q log' → d ≡ opened_with hz q
-      → Opens o limit answers log d log'
+      → opening_steps o.instance c.mod_div c.divider hz o.oscillator o.config ≡ s → d ≡ opened_with hz p
+      → Opens o limit y.now x.now d log'
   unfolding opens
-  runs_opens z b t e h w f =
-      let w' = rw (chosen_steps o t e h, b) at w in
-      record { result = λ m. rw (← r, called_runs (steps_of o) limit answers log m z, f, chosen_rate o t e h, ← ((w'.does limit).state m)) refl }
+  runs_opens o limit i t e h k f =
+      let rate = chosen_rate o t e h in
+      let given = given_rate (eqb (number_in p) 0) (rate_of o) in
+      record {
+        result = λ m.
+            let runs = called_runs s limit y.now x.now m refl ∙ sym (from_begun limit m) in
+            rw (← i.is, f, rate, ← chosen_steps o t e h, k, runs, given) refl;
+        given = rw (f, rate) refl;
+      }
 
-pub released : {instance : ℕ} {answers log log' : List ℕ} {p r : Progress} → p ≡ begun → Works (release_steps instance) answers p log r log'
-    → Releases instance answers log r log'
+  -- a release, from there on
+  pub releases_begun : (instance : ℕ) → release_steps instance ≡ s → Releases instance y.now x.now p log'
+  unfolding releases
+  releases_begun instance k =
+      record { state = λ limit m. rw (called_runs _ limit y.now x.now m refl, k) (from_begun limit m) }
+
+pub released : {instance : ℕ} {answers log log' : List ℕ} {p r : Progress} → p ≡ begun
+    → Works (release_steps instance) answers p log r log' → Releases instance answers log r log'
 unfolding releases
 released {answers = answers} {log = log} b w =
     record { state = λ limit m. (rw b at ((w.does limit).state m)) ∙ sym (called_runs _ limit answers log m refl) }

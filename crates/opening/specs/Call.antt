@@ -1,5 +1,6 @@
--- An opening and a release as a user calls them: what is refused, and what is given for every input (document 01, "How a call ends").
-use Rattle.std.specs.Prelude.{◌≡◌, Bool, cond, not, ◌&&◌, List, ℕ, eqb, ltb}
+-- An opening and a release as a user calls them: what is refused, and what is given for every input
+-- (document 01, "How a call ends").
+use Rattle.std.specs.Prelude.{◌≡◌, Bool, cond, not, ◌&&◌, List, ℕ, eqb, ltb, Option, Some, None, unwrap_or}
 use Rattle.model.specs.Steps.{Steps}
 use Rattle.model.specs.State.{State, called}
 use Rattle.config.specs.Spi.{supported}
@@ -11,8 +12,9 @@ use Rattle.clock.specs.declared.Choice.{Choice}
 use Rattle.clock.specs.Rank.{choice}
 use Rattle.clock.specs.Answer.{sck}
 use Rattle.clock.specs.Dummies.{clamped}
+use Rattle.access.specs.declared.progress.Tally.{Tally}
 use Rattle.access.specs.declared.progress.Progress.{Progress}
-use Rattle.access.specs.Of.{state_of}
+use Rattle.access.specs.Of.{state_of, number_in}
 use Rattle.opening.specs.declared.ClockTree.{ClockTree}
 use Rattle.opening.specs.declared.Opened.{Opened}
 use Rattle.opening.specs.Steps.{opening_steps, release_steps}
@@ -63,16 +65,22 @@ opens o limit answers log m = with_rate (rate_of o) (called (opening_refusal o l
 unfoldable pub releases : ℕ → ℕ → List ℕ → List ℕ → List ℕ → State
 releases instance limit answers log m = called 0 (release_steps instance) limit answers log m
 
+-- the tally of a call without a wait
+abbrev pub no_polls : Tally
+no_polls = record { polls = 0; longest = 0 }
+
+-- its rate: the one that is given, else 0
 abbrev pub result_of : Opened → List ℕ → List ℕ → Result
-result_of r log m = record { state = state_of r.progress log m; rate = r.sck_hz }
+result_of r log m = record { state = state_of r.progress log m; rate = unwrap_or r.sck_hz 0 }
 
 -- the code's answer: the rate only with 0
 abbrev pub opened_with : ℕ → Progress → Opened
-opened_with rate p = record { progress = p; sck_hz = cond (eqb p.number 0) rate 0 }
+opened_with rate p = record { progress = p; sck_hz = cond (eqb (number_in p) 0) (Some rate) None }
 
--- An opening leaves the memory alone, whatever it is.
+-- An opening leaves the memory alone, whatever it is. Its rate is given exactly where it is done.
 pub record Opens (o : Opening) (limit : ℕ) (answers log : List ℕ) (r : Opened) (log' : List ℕ) : Type 0 where
   pub result : (m : List ℕ) → result_of r log' m ≡ opens o limit answers log m
+  pub given : r ≡ opened_with (rate_of o) r.progress
 
 -- The same for a release, at every limit.
 pub record Releases (instance : ℕ) (answers log : List ℕ) (r : Progress) (log' : List ℕ) : Type 0 where

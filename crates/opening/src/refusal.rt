@@ -1,9 +1,11 @@
 // What an opening refuses before any access.
 ghost use Rattle.std.specs.Prelude.{◌≡◌, not, ◌&&◌};
+ghost use Rattle.access.specs.Of.{Refuses};
 ghost use Rattle.config.specs.Config.{is_qpi};
 ghost use Rattle.opening.specs.Call.{refusal};
 
-use config::{Mode, WorkMode, number};
+use config::{Mode, QspiError, WorkMode};
+use std::num::NonZeroU32;
 
 fn lacks_qpi(work_mode: WorkMode, qpi: bool) -> bool
     ensures { result ≡ (is_qpi work_mode && not qpi) }
@@ -11,21 +13,25 @@ fn lacks_qpi(work_mode: WorkMode, qpi: bool) -> bool
     work_mode.is_qpi() && !qpi
 }
 
-// 3, 4, 5 or 7, in this order; else 0.
-pub fn refused(mode: Mode, instance: u32, work_mode: WorkMode, qpi: bool, limit: u32) -> u32
-    ensures { result ≡ refusal mode instance work_mode qpi limit }
+// 3, 4, 5 or 7, in this order; else the limit.
+#[tactic(auto, unfolding(crate::specs::Call::refusal))]
+pub fn refused(
+    mode: Mode,
+    instance: u32,
+    work_mode: WorkMode,
+    qpi: bool,
+    limit: u32,
+) -> Result<NonZeroU32, QspiError>
+    ensures { Refuses limit (refusal mode instance work_mode qpi limit) result }
 {
     if !mode.is_supported() {
-        return number::SPI_MODE;
+        return Err(QspiError::SpiMode);
     }
     if instance > 3 {
-        return number::INSTANCE;
+        return Err(QspiError::Instance);
     }
     if lacks_qpi(work_mode, qpi) {
-        return number::QPI;
+        return Err(QspiError::Qpi);
     }
-    if limit == 0 {
-        return number::LIMIT;
-    }
-    number::DONE
+    NonZeroU32::new(limit).ok_or(QspiError::Limit)
 }

@@ -11,17 +11,18 @@ use lib.Dec.{ltb}
 use borrow.Author.Tests.{ltb-true}
 use Rattle.model.specs.Wait.{Cause, ready, count_of}
 use Rattle.model.specs.Wait.Cause.{space, received}
+use Rattle.model.specs.Event.{said}
 use Rattle.model.specs.Event.Act.{send}
 use Rattle.model.specs.Event.Ask.{byte}
 use Rattle.model.specs.Steps.{Steps, then}
 use Rattle.model.specs.Steps.End.{done}
-use Rattle.model.specs.Steps.Steps.{end, act, get, wait}
+use Rattle.model.specs.Steps.Steps.{end, act, ask, get, wait}
 use Rattle.model.specs.State.{State, advance}
 use Rattle.model.proofs.Advance.{onto, ended, skipped}
 use Rattle.model.proofs.Next.{get_stored, get_stopped}
 use Rattle.access.specs.declared.progress.Progress.{Progress}
-use Rattle.access.specs.Of.{state_of}
-use Rattle.access.specs.Does.{Sound, Acts, Asks, Does, Runs, Gets}
+use Rattle.access.specs.Of.{state_of, number_in}
+use Rattle.access.specs.Does.{Sound, Works, Does, Runs, Gets}
 use Rattle.qspi.specs.Phases.{Move, moved, moved_all, paced, gots}
 use Rattle.qspi.specs.Phases.Move.{sent}
 use Rattle.waits.specs.Does.{Waits}
@@ -29,11 +30,17 @@ use Rattle.qspi.proofs.Paced.{portion, paced_wait, portion_part, take_sent, drop
 use Rattle.access.proofs.Sequence.{part_length, runs_part}
 use Rattle.access.proofs.Through.{Through, through_more}
 
+works : {s : Steps} {answers : List ℕ} {p r : Progress} {log log' : List ℕ} → Sound r
+    → ((limit : ℕ) (m : List ℕ) → state_of r log' m ≡ advance s limit answers (state_of p log m))
+    → Works s answers p log r log'
+works f e = record { sound = f; does = λ limit. record { sound = f; state = e limit } }
+
 -- sending with no wait, after i bytes
-pub record Sending (bytes : List ℕ) (p : Progress) (log : List ℕ) (r : Progress) (log' : List ℕ) (i : ℕ) : Type 0 where
+pub record Sending (bytes answers : List ℕ) (p : Progress) (log : List ℕ) (r : Progress) (log' : List ℕ)
+    (i : ℕ) : Type 0 where
   pub within : i ≤ length bytes
   pub sound : Sound r
-  pub state : (limit : ℕ) (answers m : List ℕ)
+  pub state : (limit : ℕ) (m : List ℕ)
       → advance (moved_all (map sent bytes)) limit answers (state_of p log m) ≡ advance (moved_all (map sent (drop i bytes))) limit answers (state_of r log' m)
 
 sends_next : (bytes : List ℕ) (i : ℕ) → i < length bytes
@@ -41,29 +48,35 @@ sends_next : (bytes : List ℕ) (i : ℕ) → i < length bytes
 unfolding moved_all moved then
 sends_next bytes i h = rw (drop-cons bytes i 0 h, add-one) refl
 
-pub sending_starts : (bytes : List ℕ) (p : Progress) (log : List ℕ) → Sound p → Sending bytes p log p log 0
-sending_starts bytes p log few = record { within = omega arith; sound = few; state = λ l ws m. refl }
+pub sending_starts : (bytes answers : List ℕ) (p : Progress) (log : List ℕ) → Sound p
+    → Sending bytes answers p log p log 0
+sending_starts bytes answers p log few = record { within = omega arith; sound = few; state = λ l m. refl }
 
-module _ {bytes : List ℕ} {p r : Progress} {log log' : List ℕ} {i : ℕ} (on : Sending bytes p log r log' i) where
-  pub sending_more : {t : Progress} {log'' : List ℕ} → i < length bytes → Acts (act (send (get_or bytes i 0)) (end done)) r log' t log''
-      → Sending bytes p log t log'' (i + 1)
+module _ {bytes answers : List ℕ} {p r : Progress} {log log' : List ℕ} {i : ℕ}
+    (on : Sending bytes answers p log r log' i) where
+  pub sending_more : {t : Progress} {log'' : List ℕ} → i < length bytes
+      → Works (act (send (get_or bytes i 0)) (end done)) answers r log' t log''
+      → Sending bytes answers p log t log'' (i + 1)
   sending_more h a =
       record {
         within = omega arith;
         sound = a.sound;
-        state = λ l ws m.
-            onto _ _ l ws (state_of r log' m) (on.state l ws m ∙ ap (λ s. advance s l ws (state_of r log' m)) (sends_next bytes i h)) (a.state l ws m);
+        state = λ l m.
+            onto _ _ l answers (state_of r log' m)
+            (on.state l m ∙ ap (λ s. advance s l answers (state_of r log' m)) (sends_next bytes i h))
+            ((a.does l).state m);
       }
 
-  pub sending_stops : {t : Progress} {log'' : List ℕ} → i < length bytes → Acts (act (send (get_or bytes i 0)) (end done)) r log' t log''
-      → (t.number ≡ 0 → ⊥) → Acts (moved_all (map sent bytes)) p log t log''
+  pub sending_stops : {t : Progress} {log'' : List ℕ} → i < length bytes
+      → Works (act (send (get_or bytes i 0)) (end done)) answers r log' t log''
+      → (number_in t ≡ 0 → ⊥) → Works (moved_all (map sent bytes)) answers p log t log''
   sending_stops {t} {log''} h a n =
-      record { sound = a.sound; state = λ l ws m. sym ((sending_more h a).state l ws m ∙ skipped _ l ws (state_of t log'' m) n) }
+      works a.sound (λ l m. sym ((sending_more h a).state l m ∙ skipped _ l answers (state_of t log'' m) n))
 
-  pub sending_done : length bytes ≤ i → Acts (moved_all (map sent bytes)) p log r log'
+  pub sending_done : length bytes ≤ i → Works (moved_all (map sent bytes)) answers p log r log'
   unfolding moved_all
   sending_done h =
-      record { sound = on.sound; state = λ l ws m. sym (on.state l ws m ∙ rw (drop_of_length-le bytes h) (ended l ws (state_of r log' m))) }
+      works on.sound (λ l m. sym (on.state l m ∙ rw (drop_of_length-le bytes h) (ended l answers (state_of r log' m))))
 
 -- receiving with no wait, after i bytes, into the memory that was `buf` and is `buf'` now
 pub record Getting (buf answers : List ℕ) (p : Progress) (log : List ℕ) (r : Progress) (log' buf' : List ℕ) (i : ℕ) : Type 0 where
@@ -84,27 +97,32 @@ unfolding moved_all moved gots
 gets_next i n h = let e : n - i ≡ suc (n - (i + 1)) = omega arith in rw e refl
 
 module _ {buf buf' answers : List ℕ} {p r : Progress} {log log' : List ℕ} {i : ℕ} (on : Getting buf answers p log r log' buf' i)
-    {t : Progress} {log'' : List ℕ} {word : ℕ} (h : i < length buf) (a : Asks byte answers r log' t log'' word) where
+    {t : Progress} {log'' : List ℕ} {word : ℕ} (h : i < length buf)
+    (a : Works (ask byte (λ x. end done)) answers r log' t log'')
+    (says : number_in t ≡ 0 → word ≡ said byte (get_or answers r.taken 0)) where
   at_next : (limit : ℕ)
       → advance (moved_all (gots 0 (length buf))) limit answers (state_of p log buf)
       ≡ advance (get i (moved_all (gots (i + 1) (length buf - (i + 1))))) limit answers (state_of r log' buf')
   at_next limit = on.state limit ∙ ap (λ s. advance s limit answers (state_of r log' buf')) (gets_next i (length buf) h)
 
-  pub getting_more : t.number ≡ 0 → Getting buf answers p log t log'' (set buf' i word) (i + 1)
+  pub getting_more : number_in t ≡ 0 → Getting buf answers p log t log'' (set buf' i word) (i + 1)
   getting_more z =
       record {
         same = simp length-set on.same;
         within = omega arith;
         sound = a.sound;
-        state = λ limit. at_next limit ∙ get_stored i _ limit answers _ _ word (a.state limit buf') a.says z;
+        state = λ limit. at_next limit ∙ get_stored i _ limit answers _ _ word ((a.does limit).state buf') says z;
       }
 
-  pub getting_stops : (t.number ≡ 0 → ⊥) → Gets (moved_all (gots 0 (length buf))) answers p log buf t log'' buf'
+  pub getting_stops : (number_in t ≡ 0 → ⊥) → Gets (moved_all (gots 0 (length buf))) answers p log buf t log'' buf'
   getting_stops n =
       record {
         sound = a.sound;
         runs = λ limit.
-            record { sound = a.sound; state = sym (at_next limit ∙ get_stopped i _ limit answers _ _ word (a.state limit buf') a.says n) };
+            record {
+              sound = a.sound;
+              state = sym (at_next limit ∙ get_stopped i _ limit answers _ _ word ((a.does limit).state buf') says n);
+            };
       }
 
 pub getting_done : {buf buf' answers : List ℕ} {p r : Progress} {log log' : List ℕ} {i : ℕ} → Getting buf answers p log r log' buf' i
@@ -129,7 +147,8 @@ module _ (c : Cause) (xs : List Move) (some : 0 < length xs) (limit : ℕ) (answ
 
 -- a wait that is for a count ends with some
 pub some_count : {c : Cause} {limit : ℕ} {answers : List ℕ} {p r : Progress} {log log' : List ℕ} {count : ℕ}
-    → ((word : ℕ) → ready c word ≡ ltb 0 (count_of c word)) → Waits c limit answers p log r log' count → r.number ≡ 0 → 0 < count
+    → ((word : ℕ) → ready c word ≡ ltb 0 (count_of c word)) → Waits c limit answers p log r log' count → number_in r ≡ 0
+    → 0 < count
 some_count e w z = rw (w.counts z).2 (ltb-true _ _ (sym (e _) ∙ (w.counts z).1))
 
 -- writing, after i bytes
@@ -157,12 +176,13 @@ module _ {bytes answers : List ℕ} {limit : ℕ} {p r t : Progress} {log log' l
   more : 0 < length (map sent (drop i bytes))
   more = rw (length_sends bytes i) (omega arith)
 
-  pub writing_stops : (t.number ≡ 0 → ⊥) → Does (paced space 0 (map sent bytes)) limit answers p log t log''
+  pub writing_stops : (number_in t ≡ 0 → ⊥) → Does (paced space 0 (map sent bytes)) limit answers p log t log''
   writing_stops n =
       record { sound = w.sound; state = λ m. sym (portion_stops space _ more limit answers _ _ (state_of t log'' m) count (on.state m) (w.state m) n) }
 
-  pub writing_more : {u : Progress} {log''' : List ℕ} {len : ℕ} → t.number ≡ 0 → len ≡ min count (length bytes - i)
-      → Acts (moved_all (map sent (take len (drop i bytes)))) t log'' u log''' → Writing bytes limit answers p log u log''' (i + len)
+  pub writing_more : {u : Progress} {log''' : List ℕ} {len : ℕ} → number_in t ≡ 0 → len ≡ min count (length bytes - i)
+      → Works (moved_all (map sent (take len (drop i bytes)))) answers t log'' u log'''
+      → Writing bytes limit answers p log u log''' (i + len)
   writing_more {len = len} z e a =
       record {
         within = omega arith;
@@ -171,7 +191,7 @@ module _ {bytes answers : List ℕ} {limit : ℕ} {p r t : Progress} {log log' l
             onto _ _ limit answers (state_of t log'' m)
             (portion_goes space _ more limit answers _ _ (state_of t log'' m) count (on.state m) (w.state m) (some_count (λ _. refl) w z)
             ∙ ap (λ s. advance s limit answers (state_of t log'' m)) (sends_portion bytes i count len e))
-            (a.state limit answers m);
+            ((a.does limit).state m);
       }
 
 pub writing_done : {bytes answers : List ℕ} {limit : ℕ} {p r : Progress} {log log' : List ℕ} {i : ℕ} → Writing bytes limit answers p log r log' i
@@ -179,6 +199,13 @@ pub writing_done : {bytes answers : List ℕ} {limit : ℕ} {p r : Progress} {lo
 unfolding paced
 writing_done {bytes} {answers} {limit} {r = r} {log' = log'} on h =
     record { sound = on.sound; state = λ m. sym (on.state m ∙ rw (drop_of_length-le bytes h) (ended limit answers (state_of r log' m))) }
+
+-- stopped on the way
+pub writing_cut : {bytes answers : List ℕ} {limit : ℕ} {p r : Progress} {log log' : List ℕ} {i : ℕ}
+    → Writing bytes limit answers p log r log' i
+    → (number_in r ≡ 0 → ⊥) → Does (paced space 0 (map sent bytes)) limit answers p log r log'
+writing_cut {bytes} {answers} {limit} {r = r} {log' = log'} on n =
+    record { sound = on.sound; state = λ m. sym (on.state m ∙ skipped _ limit answers (state_of r log' m) n) }
 
 -- reading n bytes to the memory from index `at` on
 abbrev pub reading : ℕ → ℕ → Steps
@@ -208,14 +235,16 @@ module _ {buf buf' answers : List ℕ} {limit : ℕ} {p r t : Progress} {log log
   more_left : 0 < length (gots i (length buf - i))
   more_left = rw length_gots (omega arith)
 
-  pub reading_stops : (t.number ≡ 0 → ⊥) → Runs (paced received 0 (gots 0 (length buf))) limit answers p log buf t log'' buf'
+  pub reading_stops : (number_in t ≡ 0 → ⊥)
+      → Runs (paced received 0 (gots 0 (length buf))) limit answers p log buf t log'' buf'
   reading_stops n =
       record {
         sound = w.sound;
         state = sym (portion_stops received _ more_left limit answers _ _ (state_of t log'' buf') count on.state (w.state buf') n);
       }
 
-  pub reading_more : {u : Progress} {log''' part' : List ℕ} {len : ℕ} → t.number ≡ 0 → len ≡ min count (length buf - i)
+  pub reading_more : {u : Progress} {log''' part' : List ℕ} {len : ℕ} → number_in t ≡ 0
+      → len ≡ min count (length buf - i)
       → length part' ≡ length (take len (drop i buf'))
       → Gets (moved_all (gots 0 (length (take len (drop i buf'))))) answers t log'' (take len (drop i buf')) u log''' part'
       → Through reading buf limit answers p log u log''' (take i buf' ++ (part' ++ drop len (drop i buf'))) (i + len)

@@ -4,3 +4,5 @@ pub mod Bytes
 pub mod Bounds
 pub mod Windows
 pub mod Supported
+pub mod Moving
+pub mod Pacing

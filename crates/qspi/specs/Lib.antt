@@ -1,2 +1,3 @@
 pub mod Phases
 pub mod Bounds
+pub mod Entered

@@ -33,7 +33,7 @@ zeros command k d h =
 -- `d` zeros behind `n` bytes of the command, which were copied into sixteen zeros
 pub frames_copied : (command : List ℕ) (dummies : ℕ) {bytes : List ℕ} {n d : ℕ} → d ≡ min dummies 8 → n ≡ min (length command) (16 - d)
     → bytes ≡ take n command ++ drop n (replicate 16 0)
-    → Frames command dummies (record { bytes = bytes; length = n + d })
+    → {fits : n + d ≤ 16} → Frames command dummies (record { bytes = bytes; length = n + d; fits = fits })
 unfolding framed
 frames_copied command dummies {bytes} {n} {d} e f g =
     let counts : length (take n command) ≡ n = simp length-take (omega arith) in
@@ -49,7 +49,7 @@ frames_copied command dummies {bytes} {n} {d} e f g =
 -- the same where the count of the bytes that were copied is their length
 pub frames : (command : List ℕ) (dummies : ℕ) {bytes : List ℕ} {n d : ℕ} → d ≡ min dummies 8 → n ≡ min (length command) (16 - d)
     → bytes ≡ take (length (take n command)) (take n command) ++ drop (length (take n command)) (replicate 16 0)
-    → Frames command dummies (record { bytes = bytes; length = n + d })
+    → {fits : n + d ≤ 16} → Frames command dummies (record { bytes = bytes; length = n + d; fits = fits })
 frames command dummies {bytes} {n} {d} e f g =
     let counts : length (take n command) ≡ n = simp length-take (omega arith) in
     frames_copied command dummies e f (g ∙ rw (take-length (take n command), counts) refl)

@@ -1,83 +1,88 @@
 -- Which numbers the check never gives.
-use Prim.Native.Nat.{ℕ, suc, ◌+◌, ◌≤◌, ◌/◌}
-use mathlib.Core.Path.{◌≡◌, refl, sym, ◌∙◌}
-use mathlib.Core.Logic.{◌⊎◌, inl, inr}
-use mathlib.Core.Bool.{Bool, true, false, cond, ◌&&◌, ◌||◌}
-use mathlib.Core.List.{List, [], ◌∷◌, map}
-use native.Mathlib.Omega.{arith}
-use lib.ListN.{length}
-use lib.Dec.{ltb}
-use borrow.Author.Tests.{ltb-false, le-ltb}
+use Rattle.std.proofs.Common.{◌≡◌, ℕ, ◌+◌, ◌≤◌, ◌/◌, Bool, true, false, cond, ◌&&◌, ltb, List, [], ◌∷◌, map, length}
+use Rattle.std.proofs.Common.{Result, Ok, Err, ◌⊎◌, inl, inr, refl, ap, sym, ◌∙◌, arith}
+use Rattle.std.specs.List.{list_any}
+use Rattle.std.proofs.lemmas.Bool.{ltb-false, le-ltb}
+use Rattle.config.specs.declared.error.QspiError.{QspiError}
+use Rattle.config.specs.declared.error.QspiError.TheVariants.{Chain, Window, Length}
+use Rattle.config.specs.Error.{error_number}
 use Rattle.records.specs.Kinds.{kind_of}
-use Rattle.records.specs.Check.{any, outside_of, too_long, extent_in, extents_fault, windows_fault, out_of_range, known, next_fits, next_of, field, record_fault, Checked, ahead, checked}
+use Rattle.records.specs.Check.{outside_of, too_long, extent_in, extents_fault, windows_fault, field, record_fault}
+use Rattle.records.specs.Check.{Checked, ahead, checked}
 use Rattle.records.specs.Laws.{EachFault, Never6, FaultNumbers}
-use Rattle.records.specs.declared.Extent.{Extent}
+use Rattle.records.specs.declared.extent.Extent.{Extent}
+use Rattle.records.proofs.KindLaws.{neither}
 use Rattle.records.proofs.Holds.{checked_holds}
+
+abbrev windows : List ℕ → List Extent
+windows r = map (extent_in r) (kind_of (field r 0)).windows
+
+-- 8, 9 or 6, the last only where no window is outside
+Which : ℕ → List ℕ → QspiError → Type 0
+Which memory r e =
+    let outside = list_any (outside_of memory) (windows r) in
+    let long = list_any too_long (windows r) in
+    (e ≡ Chain) ⊎ ((e ≡ Window) ⊎ ((e ≡ Length) × (outside ≡ false) × (long ≡ true)))
+
+record_error : (highest memory count own : ℕ) (r : List ℕ) (e : QspiError)
+    → record_fault highest memory count own r ≡ Err e → Which memory r e
+unfolding Which record_fault windows_fault extents_fault
+record_error highest memory count own r e = by _ _ refl _ refl
+  where
+    by :
+        (a b : Bool)
+        → list_any (outside_of memory) (windows r) ≡ b
+        → (d : Bool)
+        → list_any too_long (windows r) ≡ d
+        → ◌≡◌ {A = Result (Unit {0}) QspiError}
+        (cond a (cond b (Err Window) (cond d (Err Length) (Ok tt))) (Err Chain))
+        (Err e)
+        → Which memory r e
+    by false b p d q h = inl cc
+    by true true p d q h = inr (inl cc)
+    by true false p true q h = inr (inr (cc, p, q))
+    by true false p false q h = cc
+
+-- What every fault's number is: what it is of every record, and 8.
+module _ (P : ℕ → Type 0) where
+  ahead_each : (r : List ℕ) (c : Checked) → EachFault P c → EachFault P (ahead r c)
+  ahead_each r (Err f) h = h
+  ahead_each r (Ok rs) h = tt
+
+  checked_each : (highest memory : ℕ) (ws : List ℕ) → P 8
+      → ((r : List ℕ) (e : QspiError) → Which memory r e → P (error_number e)) → EachFault P (checked highest memory ws)
+  checked_each highest memory ws eight each =
+      checked_holds (EachFault P) highest memory ws tt eight
+      (λ own r e z. each r e (record_error highest memory (length ws / 8) own r e z)) (λ own r c e h. ahead_each r c h)
 
 short : (p : Bool) (n : ℕ) → n ≤ 0xFFFFFF → (p && ltb 0xFFFFFF n) ≡ false
 short true n h = le-ltb _ _ h
 short false n h = refl
 
 module _ (memory : ℕ) (small : memory ≤ 0xFFFFFF) where
-  inside_short : (es : List Extent) → any (outside_of memory) es ≡ false → any too_long es ≡ false
+  inside_short : (es : List Extent) → list_any (outside_of memory) es ≡ false → list_any too_long es ≡ false
   inside_short [] e = refl
-  inside_short (x ∷ es) e = go (outside_of memory x) refl e (inside_short es)
-    where
-      go :
-          (b : Bool)
-          → outside_of memory x ≡ b
-          → (b || any (outside_of memory) es) ≡ false
-          → (any (outside_of memory) es ≡ false → any too_long es ≡ false)
-          → any too_long (x ∷ es) ≡ false
-      go true q p rest = let z : ◌≡◌ {A = ℕ} 0 1 = cc in absurd (omega arith)
-      go false q p rest = rw (short x.phase x.size (omega (arith, ltb-false memory (x.start + x.size) q))) (rest p)
+  inside_short (x ∷ es) e =
+      let n = neither (outside_of memory x) (list_any (outside_of memory) es) e in
+      rw (short x.phase x.size (omega (arith, ltb-false memory (x.start + x.size) n.0))) (inside_short es n.1)
 
-  extents_6 : (es : List Extent) → extents_fault memory es ≡ 6 → ⊥
-  unfolding extents_fault
-  extents_6 es e = go (any (outside_of memory) es) refl e
-    where
-      go : (b : Bool) → any (outside_of memory) es ≡ b → ◌≡◌ {A = ℕ} (cond b 9 (cond (any too_long es) 6 0)) 6 → ⊥
-      go true q p = omega arith
-      go false q p = let z : ◌≡◌ {A = ℕ} 0 6 = rw (inside_short es q) at p in omega arith
-
-  record_6 : (highest count own : ℕ) (r : List ℕ) → record_fault highest memory count own r ≡ 6 → ⊥
-  unfolding record_fault windows_fault
-  record_6 highest count own r = go (known highest (field r 0)) (out_of_range r) (next_fits own count (next_of r))
-    where
-      go : (a b c : Bool) → cond a (cond b 8 (cond c (windows_fault memory r) 8)) 8 ≡ 6 → ⊥
-      go true true c p = omega arith
-      go true false true p = extents_6 (map (extent_in r) (kind_of (field r 0)).windows) p
-      go true false false p = omega arith
-      go false b c p = omega arith
-
--- What every fault's number is: what it is of every record, and 8.
-module _ (P : ℕ → Type 0) where
-  ahead_each : (r : List ℕ) (c : Checked) → EachFault P c → EachFault P (ahead r c)
-  ahead_each r (Checked.fault n i) h = h
-  ahead_each r (Checked.chain rs) h = tt
-
-  checked_each : (highest memory : ℕ) (ws : List ℕ) → P 8
-      → ((own : ℕ) (r : List ℕ) (n : ℕ) → record_fault highest memory (length ws / 8) own r ≡ suc n → P (suc n)) → EachFault P (checked highest memory ws)
-  checked_each highest memory ws eight each = checked_holds (EachFault P) highest memory ws tt eight each (λ own r c e h. ahead_each r c h)
+  not_6 : (r : List ℕ) (e : QspiError) → Which memory r e → error_number e ≡ 6 → ⊥
+  unfolding Which
+  not_6 r e (inl p) z = let n : ◌≡◌ {A = ℕ} 8 6 = ap error_number (sym p) ∙ z in omega arith
+  not_6 r e (inr (inl p)) z = let n : ◌≡◌ {A = ℕ} 9 6 = ap error_number (sym p) ∙ z in omega arith
+  not_6 r e (inr (inr p)) z = let n = inside_short (windows r) p.1 in cc
 
 pub never_6 : Never6
 never_6 memory small highest ws =
-    checked_each (λ n. n ≡ 6 → ⊥) highest memory ws (λ e. omega (arith, e)) (λ own r n e z. record_6 memory small highest (length ws / 8) own r (e ∙ z))
+    checked_each (λ n. n ≡ 6 → ⊥) highest memory ws (λ e. omega (arith, e)) (not_6 memory small)
 
-record_number : (highest memory count own : ℕ) (r : List ℕ) (n : ℕ) → record_fault highest memory count own r ≡ suc n → (suc n ≡ 6) ⊎ (suc n ≡ 8) ⊎ (suc n ≡ 9)
-unfolding record_fault windows_fault extents_fault
-record_number highest memory count own r n =
-    let es = map (extent_in r) (kind_of (field r 0)).windows in
-    go (known highest (field r 0)) (out_of_range r) (next_fits own count (next_of r)) (any (outside_of memory) es) (any too_long es)
-  where
-    go : (a b c d e : Bool) → ◌≡◌ {A = ℕ} (cond a (cond b 8 (cond c (cond d 9 (cond e 6 0)) 8)) 8) (suc n) → (suc n ≡ 6) ⊎ (suc n ≡ 8) ⊎ (suc n ≡ 9)
-    go true true c d e p = inr (inl (sym p))
-    go true false true true e p = inr (inr (sym p))
-    go true false true false true p = inl (sym p)
-    go true false true false false p = absurd (omega (arith, p))
-    go true false false d e p = inr (inl (sym p))
-    go false b c d e p = inr (inl (sym p))
+number_of_which : (memory : ℕ) (r : List ℕ) (e : QspiError) → Which memory r e
+    → (error_number e ≡ 6) ⊎ (error_number e ≡ 8) ⊎ (error_number e ≡ 9)
+unfolding Which
+number_of_which memory r e (inl p) = inr (inl (ap error_number p))
+number_of_which memory r e (inr (inl p)) = inr (inr (ap error_number p))
+number_of_which memory r e (inr (inr p)) = inl (ap error_number p.0)
 
 pub fault_numbers : FaultNumbers
 fault_numbers highest memory ws =
-    checked_each (λ n. (n ≡ 6) ⊎ (n ≡ 8) ⊎ (n ≡ 9)) highest memory ws (inr (inl refl)) (record_number highest memory (length ws / 8))
+    checked_each (λ n. (n ≡ 6) ⊎ (n ≡ 8) ⊎ (n ≡ 9)) highest memory ws (inr (inl refl)) (number_of_which memory)

@@ -1,5 +1,5 @@
 -- The settled instances, computed.
-use mathlib.Core.Path.{refl}
+use Rattle.std.proofs.Common.{refl}
 use Rattle.records.specs.Check.{record_at, out_of_range, extents_fault, windows_fault, record_fault, records_in, along, checked}
 use Rattle.records.specs.Settled.{Settled}
 

@@ -1,20 +1,17 @@
--- The check looks at no field that a kind does not use, by cases over the kinds; and the instances of what the laws ask for.
-use Prim.Native.Nat.{ℕ, zero, suc}
-use mathlib.Core.Path.{◌≡◌, refl, ap, ◌∙◌}
-use mathlib.Core.Bool.{Bool}
-use mathlib.Core.List.{List, map}
-use native.Mathlib.Omega.{arith}
-use lib.Dec.{ltb}
+-- The check looks at no field that a kind does not use, by cases over the kinds; and the instances of what the laws ask
+-- for.
+use Rattle.std.proofs.Common.{◌≡◌, ℕ, zero, suc, Bool, ltb, List, map, refl, ap, ◌∙◌, arith}
+use Rattle.std.specs.List.{list_any}
 use Rattle.records.specs.Kinds.{Cap, kind_of}
-use Rattle.records.specs.Check.{field, any, out_of_range, extent_in, extents_fault, windows_fault, record_fault}
+use Rattle.records.specs.Check.{field, out_of_range, extent_in, extents_fault, windows_fault, record_fault}
 use Rattle.records.specs.Laws.{Same, UnusedFields, HypothesesMet}
-use Rattle.records.specs.declared.Extent.{Extent}
+use Rattle.records.specs.declared.extent.Extent.{Extent}
 
 abbrev extents : ℕ → List ℕ → List Extent
 extents k r = map (extent_in r) (kind_of k).windows
 
 abbrev above : ℕ → List ℕ → Bool
-above k r = any (λ (c : Cap). ltb c.most (field r c.field)) (kind_of k).caps
+above k r = list_any (λ (c : Cap). ltb c.most (field r c.field)) (kind_of k).caps
 
 module _ (r s : List ℕ) where
   looked_at : (k : ℕ) → Same (kind_of k).used r s → (extents k r ≡ extents k s) × (above k r ≡ above k s)
@@ -37,8 +34,13 @@ unused_fields r s a highest memory count own =
     let k = a.kind in
     let n = a.next in
     let range : out_of_range r ≡ out_of_range s = l.1 ∙ ap (λ k. above k s) k in
-    let windows : windows_fault memory r ≡ windows_fault memory s = ap (extents_fault memory) (l.0 ∙ ap (λ k. extents k s) k) in
+    let windows : windows_fault memory r ≡ windows_fault memory s =
+    ap (extents_fault memory) (l.0 ∙ ap (λ k. extents k s) k) in
     cc
 
 pub hypotheses_met : HypothesesMet
-hypotheses_met = record { small = omega arith; alike = record { kind = refl; next = refl; used = (refl, (refl, (refl, (refl, tt)))) } }
+hypotheses_met =
+    record {
+      small = omega arith;
+      alike = record { kind = refl; next = refl; used = (refl, (refl, (refl, (refl, tt)))) };
+    }

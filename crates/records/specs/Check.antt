@@ -1,12 +1,15 @@
 -- The check of a chain of records of eight words (document 01, "Chain and sheet"): record by record 8, 9, 6.
-use Rattle.std.specs.Prelude.{ℕ, zero, suc, ◌+◌, ◌-◌, ◌*◌, ◌/◌, ◌%◌, Bool, false, cond, ◌&&◌, ◌||◌, List, [], ◌∷◌, map, length, get_or, take, drop, leb, ltb, eqb}
-use Rattle.records.specs.Kinds.{Window, Cap, kind_of}
-use Rattle.records.specs.declared.Extent.{Extent}
-use Rattle.records.specs.declared.Verdict.{Verdict}
-
-abbrev pub any : {A : Type 0} → (A → Bool) → List A → Bool
-any f [] = false
-any f (x ∷ xs) = f x || any f xs
+use Rattle.std.specs.Prelude.{ℕ, suc, ◌+◌, ◌-◌, ◌*◌, ◌/◌, ◌%◌, Bool, not, cond, ◌&&◌, ◌||◌, leb, ltb, eqb}
+use Rattle.std.specs.Prelude.{List, [], ◌∷◌, map, length, get_or, take, drop, Result, Ok, Err}
+use Rattle.std.specs.List.{list_any}
+use Rattle.std.specs.Simd.{first_chunks}
+use Rattle.config.specs.declared.error.QspiError.{QspiError}
+use Rattle.config.specs.declared.error.QspiError.TheVariants.{Chain, Window, Length}
+use Rattle.config.specs.Error.{error_number}
+use Rattle.records.specs.Kinds as kinds
+use Rattle.records.specs.Kinds.{Cap, kind_of}
+use Rattle.records.specs.declared.extent.Extent.{Extent}
+use Rattle.records.specs.declared.Fault.{Fault}
 
 -- document 01's *record* i, counted from 1: eight words, kind, f1 to f6 and next
 unfoldable pub record_at : List ℕ → ℕ → List ℕ
@@ -24,7 +27,7 @@ abbrev pub known : ℕ → ℕ → Bool
 known highest k = leb 1 k && (leb k highest && leb k 9)
 
 unfoldable pub out_of_range : List ℕ → Bool
-out_of_range r = any (λ (c : Cap). ltb c.most (field r c.field)) (kind_of (field r 0)).caps
+out_of_range r = list_any (λ (c : Cap). ltb c.most (field r c.field)) (kind_of (field r 0)).caps
 
 abbrev pub next_fits : ℕ → ℕ → ℕ → Bool
 next_fits own count next = eqb next 0 || (ltb own next && leb next count)
@@ -33,7 +36,7 @@ next_fits own count next = eqb next 0 || (ltb own next && leb next count)
 abbrev pub extent : ℕ → ℕ → Bool → Extent
 extent s n p = record { start = s; size = n; phase = p }
 
-abbrev pub extent_in : List ℕ → Window → Extent
+abbrev pub extent_in : List ℕ → kinds.Window → Extent
 extent_in r w = extent (field r w.start) (field r w.size) w.phase
 
 -- 9: one of the windows ends past the memory; 6: one of the lengths of a phase is above FFFFFF hex
@@ -43,61 +46,65 @@ outside_of memory e = ltb memory (e.start + e.size)
 abbrev pub too_long : Extent → Bool
 too_long e = e.phase && ltb 0xFFFFFF e.size
 
-unfoldable pub extents_fault : ℕ → List Extent → ℕ
-extents_fault memory es = cond (any (outside_of memory) es) 9 (cond (any too_long es) 6 0)
+unfoldable pub extents_fault : ℕ → List Extent → Result (Unit {0}) QspiError
+extents_fault memory es =
+    cond (list_any (outside_of memory) es) (Err Window) (cond (list_any too_long es) (Err Length) (Ok tt))
 
-unfoldable pub windows_fault : ℕ → List ℕ → ℕ
+unfoldable pub windows_fault : ℕ → List ℕ → Result (Unit {0}) QspiError
 windows_fault memory r = extents_fault memory (map (extent_in r) (kind_of (field r 0)).windows)
 
--- the number of the first fault of a record, 0 for none
-unfoldable pub record_fault : ℕ → ℕ → ℕ → ℕ → List ℕ → ℕ
+-- the first fault of a record, if it has one
+unfoldable pub record_fault : ℕ → ℕ → ℕ → ℕ → List ℕ → Result (Unit {0}) QspiError
 record_fault highest memory count own r =
-    cond (known highest (field r 0)) (cond (out_of_range r) 8 (cond (next_fits own count (next_of r)) (windows_fault memory r) 8)) 8
+    let sound = known highest (field r 0) && (not (out_of_range r) && next_fits own count (next_of r)) in
+    cond sound (windows_fault memory r) (Err Chain)
 
--- the first fault with its number and its record (0: the slice itself), or document 01's *chain*: its records, in order
-pub data Checked : Type 0 where
-  fault : ℕ → ℕ → Checked
-  chain : List (List ℕ) → Checked
+-- the first fault with its record (0: the slice itself), or document 01's *chain*: its records, in order
+abbrev pub Checked : Type 0
+Checked = Result (List (List ℕ)) Fault
+
+abbrev pub fault : QspiError → ℕ → Fault
+fault e i = record { error = e; «record» = i }
 
 -- what the code answers, and its number: 0, or that of the fault
-abbrev pub verdict : Checked → Verdict
-verdict (fault n i) = Verdict.Fault n i
-verdict (chain rs) = Verdict.Fine
+abbrev pub verdict : Checked → Result (Unit {0}) Fault
+verdict (Err f) = Err f
+verdict (Ok rs) = Ok tt
 
-abbrev pub number_of : Verdict → ℕ
-number_of Verdict.Fine = 0
-number_of (Verdict.Fault n i) = n
+abbrev pub number_of : Result (Unit {0}) Fault → ℕ
+number_of (Ok done) = 0
+number_of (Err f) = error_number f.error
 
 abbrev pub ahead : List ℕ → Checked → Checked
-ahead r (fault n i) = fault n i
-ahead r (chain rs) = chain (r ∷ rs)
+ahead r (Err f) = Err f
+ahead r (Ok rs) = Ok (r ∷ rs)
 
 -- a record on the chain: its fault, or what is found behind it
-abbrev pub step : ℕ → ℕ → List ℕ → Checked → Checked
-step zero own r rest = ahead r rest
-step (suc n) own r rest = fault (suc n) own
+abbrev pub step : Result (Unit {0}) QspiError → ℕ → List ℕ → Checked → Checked
+step (Ok done) own r rest = ahead r rest
+step (Err e) own r rest = Err (fault e own)
 
 -- n records of eight words
 unfoldable pub records_in : ℕ → List ℕ → List (List ℕ)
-records_in zero ws = []
-records_in (suc n) ws = take 8 ws ∷ records_in n (drop 8 ws)
+records_in = first_chunks 8
 
--- Through the records from number `own` on: those before record `due` are not looked at. A next of 0 ends the chain; any other is larger than its own number.
+-- Through the records from number `own` on: those before record `due` are not looked at. A next of 0 ends the chain;
+-- any other is larger than its own number.
 unfoldable pub along : ℕ → ℕ → ℕ → List (List ℕ) → ℕ → ℕ → Checked
-along highest memory count [] own due = chain []
+along highest memory count [] own due = Ok []
 along highest memory count (r ∷ rs) own due =
     let later = along highest memory count rs (suc own) in
     let next = next_of r in
-    let behind = cond (eqb next 0) (chain []) (later next) in
+    let behind = cond (eqb next 0) (Ok []) (later next) in
     cond (eqb own due) (step (record_fault highest memory count own r) own r behind) (later due)
 
 -- 8 for a slice that is no multiple of eight; else the chain, which starts at record 1
 unfoldable pub checked : ℕ → ℕ → List ℕ → Checked
 checked highest memory ws =
     let count = length ws / 8 in
-    cond (eqb (length ws % 8) 0) (along highest memory count (records_in count ws) 1 1) (fault 8 0)
+    cond (eqb (length ws % 8) 0) (along highest memory count (records_in count ws) 1 1) (Err (fault Chain 0))
 
 -- the records that are run
 abbrev pub chain_of : Checked → List (List ℕ)
-chain_of (fault n i) = []
-chain_of (chain rs) = rs
+chain_of (Err f) = []
+chain_of (Ok rs) = rs

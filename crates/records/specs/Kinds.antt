@@ -1,5 +1,8 @@
--- The kinds of records (document 01, "Chain and sheet"): which fields are windows, which of their lengths 6 tests, which fields have a
--- largest value, and which are used at all. Fields are numbered as the words of a record: 0 the kind, 1 to 6, 7 the next record.
+-- The kinds of records (document 01, "Chain and sheet"): which fields are windows, which of their lengths 6 tests,
+-- which
+-- fields have a largest value, and which are used at all. Fields are numbered as the words of a record: 0 the kind, 1
+-- to
+-- 6, 7 the next record.
 use Rattle.std.specs.Prelude.{ℕ, Bool, true, false, List, [], ◌∷◌, get_or}
 
 -- the fields of a start and a length in lent memory; `phase`: the length is that of one phase, so 6 tests it
@@ -38,7 +41,9 @@ kinds =
     ∷ kind [] [] (1 ∷ [])  -- 5 delay
     ∷ kind [] [] []  -- 6 flush
     ∷ kind [] (record { field = 1; most = 6 } ∷ []) (1 ∷ [])  -- 7 mode
-    ∷ kind (window 1 2 false ∷ window 5 6 true ∷ []) (record { field = 4; most = 255 } ∷ []) (1 ∷ 2 ∷ 3 ∷ 4 ∷ 5 ∷ 6 ∷ [])  -- 8 quad read
+    -- 8 quad read
+    ∷ kind (window 1 2 false ∷ window 5 6 true ∷ []) (record { field = 4; most = 255 } ∷ [])
+    (1 ∷ 2 ∷ 3 ∷ 4 ∷ 5 ∷ 6 ∷ [])
     ∷ kind (window 1 2 true ∷ window 5 6 true ∷ []) [] (1 ∷ 2 ∷ 5 ∷ 6 ∷ [])  -- 9 quad write
     ∷ []
 

@@ -1,20 +1,29 @@
 -- What is proved of the check, whatever the words.
-use Rattle.std.specs.Prelude.{◌≡◌, true, List, [], ◌∷◌, ◌⊎◌, ℕ, ◌≤◌}
+use Rattle.std.specs.Prelude.{◌≡◌, true, not, ◌&&◌, List, [], ◌∷◌, map, ◌⊎◌, ℕ, ◌≤◌, Ok, Err, is_some, IfSome}
+use Rattle.config.specs.Error.{error_number}
 use Rattle.records.specs.Kinds.{kind_of}
-use Rattle.records.specs.Check.{Checked, known, field, next_of, record_fault, checked, chain_of}
+use Rattle.records.specs.Check.{known, out_of_range, field, next_of, extent_in, record_fault}
+use Rattle.records.specs.Check.{Checked, checked, chain_of}
+use Rattle.records.specs.Record.{record_of, windows_of}
 
 -- a fault has such a number
 abbrev pub EachFault : (ℕ → Type 0) → Checked → Type 0
-EachFault P (Checked.fault n i) = P n
-EachFault P (Checked.chain rs) = Unit {0}
+EachFault P (Err f) = P (error_number f.error)
+EachFault P (Ok rs) = Unit {0}
 
--- 6 is never given where the memory has at most FFFFFF hex bytes, as in a sheet: a length above that lies outside, and 9 comes first.
+-- 6 is never given where the memory has at most FFFFFF hex bytes, as in a sheet: a length above that lies outside, and
+-- 9
+-- comes first.
 abbrev pub Never6 : Type 0
-Never6 = (memory : ℕ) → memory ≤ 0xFFFFFF → (highest : ℕ) (words : List ℕ) → EachFault (λ n. n ≡ 6 → ⊥) (checked highest memory words)
+Never6 =
+    (memory : ℕ) → memory ≤ 0xFFFFFF → (highest : ℕ) (words : List ℕ)
+    → EachFault (λ n. n ≡ 6 → ⊥) (checked highest memory words)
 
 -- a fault is 6, 8 or 9
 abbrev pub FaultNumbers : Type 0
-FaultNumbers = (highest memory : ℕ) (words : List ℕ) → EachFault (λ n. (n ≡ 6) ⊎ (n ≡ 8) ⊎ (n ≡ 9)) (checked highest memory words)
+FaultNumbers =
+    (highest memory : ℕ) (words : List ℕ)
+    → EachFault (λ n. (n ≡ 6) ⊎ (n ≡ 8) ⊎ (n ≡ 9)) (checked highest memory words)
 
 -- each record on the chain is such
 abbrev pub Each : (List ℕ → Type 0) → List (List ℕ) → Type 0
@@ -23,7 +32,18 @@ Each P (r ∷ rs) = P r × Each P rs
 
 -- no kind above the highest is on the chain
 abbrev pub KindsKnown : Type 0
-KindsKnown = (highest memory : ℕ) (words : List ℕ) → Each (λ r. known highest (field r 0) ≡ true) (chain_of (checked highest memory words))
+KindsKnown =
+    (highest memory : ℕ) (words : List ℕ)
+    → Each (λ r. known highest (field r 0) ≡ true) (chain_of (checked highest memory words))
+
+-- Words state a record exactly if they have a known kind and no field out of range.
+abbrev pub StatesKnown : Type 0
+StatesKnown = (r : List ℕ) → is_some (record_of r) ≡ (known 9 (field r 0) && not (out_of_range r))
+
+-- The windows of the record that words state are those of the table of kinds.
+abbrev pub StatesWindows : Type 0
+StatesWindows =
+    (r : List ℕ) → IfSome (record_of r) (λ s. windows_of s ≡ map (extent_in r) (kind_of (field r 0)).windows)
 
 -- two records with the same values in these fields
 abbrev pub Same : List ℕ → List ℕ → List ℕ → Type 0
@@ -38,7 +58,9 @@ pub record Alike (r s : List ℕ) : Type 0 where
 
 -- Unused fields are not looked at.
 abbrev pub UnusedFields : Type 0
-UnusedFields = (r s : List ℕ) → Alike r s → (highest memory count own : ℕ) → record_fault highest memory count own r ≡ record_fault highest memory count own s
+UnusedFields =
+    (r s : List ℕ) → Alike r s → (highest memory count own : ℕ)
+    → record_fault highest memory count own r ≡ record_fault highest memory count own s
 
 -- What the laws ask for can be had: a memory as small as a sheet's, and two quad writes with other values in f3 and f4.
 pub record HypothesesMet : Type 0 where

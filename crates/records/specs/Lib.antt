@@ -1,4 +1,5 @@
 pub mod Kinds
 pub mod Check
+pub mod Record
 pub mod Laws
 pub mod Settled

@@ -1,11 +1,12 @@
 -- The check at edges that document 01 names, as one table and one claim.
-use Rattle.std.specs.Prelude.{ℕ, ◌≡◌, List, [], ◌∷◌, map}
-use Rattle.records.specs.Check.{Checked, fault, chain, field, checked}
+use Rattle.std.specs.Prelude.{ℕ, ◌≡◌, List, [], ◌∷◌, map, Ok, Err}
+use Rattle.config.specs.Error.{error_number}
+use Rattle.records.specs.Check.{Checked, field, checked}
 
 -- the number of a fault and its record, or 0 and the kinds on the chain
 abbrev pub said : Checked → List ℕ
-said (fault n i) = n ∷ i ∷ []
-said (chain rs) = 0 ∷ map (λ (r : List ℕ). field r 0) rs
+said (Err f) = error_number f.error ∷ f.record ∷ []
+said (Ok rs) = 0 ∷ map (λ (r : List ℕ). field r 0) rs
 
 pub record Row : Type 0 where
   pub highest : ℕ

@@ -1,182 +1,73 @@
 // Cases of the bus trait's calls and of chains.
-ghost use Rattle.io.specs.Counts.{IsPrefixLen};
+use super::failure::Failure;
+use super::fields::Fields;
+use super::text::{logged, on_memory};
+use std::alloc::Global;
 
-use super::{fields, text};
-
-// A call of the name; 0 for another name, and for numbers that are no such case.
-pub fn answer(name: &[u8], f: &[u32], out: &mut [u8]) -> usize
-    ensures { IsPrefixLen result out.new }
-{
-    if cases::same(name, b"write") {
-        return write(f, out);
-    }
-    if cases::same(name, b"read") {
-        return read(f, out);
-    }
-    if cases::same(name, b"transfer") {
-        return transfer(f, out);
-    }
-    if cases::same(name, b"inplace") {
-        return transfer_in_place(f, out);
-    }
-    if cases::same(name, b"flush") {
-        return flush(f, out);
-    }
-    if cases::same(name, b"transaction") {
-        return transaction(f, out);
-    }
-    if cases::same(name, b"sheet") {
-        return sheet(f, out);
-    }
-    0
+pub fn write(alloc: Global, mut f: Fields<'_>) -> Result<Vec<u8>, Failure> {
+    let limit = f.number()?;
+    let words = f.number()?;
+    let sent = f.bytes(alloc)?;
+    let answers = f.list()?;
+    logged(alloc, words, |log| {
+        bus::spi_bus::write(limit, log, answers, &sent)
+    })
 }
 
-fn write(f: &[u32], out: &mut [u8]) -> usize
-    ensures { IsPrefixLen result out.new }
-{
-    let mut sent = [0u8; 4096];
-    let part = fields::bytes(f, 2, &mut sent);
-    let len = part.len;
-    let next = part.next;
-    if !fields::ends_with_list(f, next) {
-        return 0;
-    }
-    let mut log = [text::UNTOUCHED; 8192];
-    let words = fields::log_words(f, 1, &log);
-    let p = bus::spi_bus::write(
-        fields::at(f, 0),
-        &mut log[..words],
-        fields::list(f, next),
-        &sent[..len],
-    );
-    text::ended(out, &log, p)
+pub fn read(alloc: Global, mut f: Fields<'_>) -> Result<Vec<u8>, Failure> {
+    let limit = f.number()?;
+    let words = f.number()?;
+    let given = f.bytes(alloc)?;
+    let answers = f.list()?;
+    on_memory(alloc, words, &given, |log, received| {
+        bus::spi_bus::read(limit, log, answers, received)
+    })
 }
 
-fn read(f: &[u32], out: &mut [u8]) -> usize
-    ensures { IsPrefixLen result out.new }
-{
-    let mut received = [0u8; 4096];
-    let part = fields::bytes(f, 2, &mut received);
-    let len = part.len;
-    let next = part.next;
-    if !fields::ends_with_list(f, next) {
-        return 0;
-    }
-    let given = received;
-    let mut log = [text::UNTOUCHED; 8192];
-    let words = fields::log_words(f, 1, &log);
-    let p = bus::spi_bus::read(
-        fields::at(f, 0),
-        &mut log[..words],
-        fields::list(f, next),
-        &mut received[..len],
-    );
-    let at = text::ended(out, &log, p);
-    text::changes(out, at, &given, &received)
+pub fn transfer(alloc: Global, mut f: Fields<'_>) -> Result<Vec<u8>, Failure> {
+    let limit = f.number()?;
+    let words = f.number()?;
+    let given = f.bytes(alloc)?;
+    let sent = f.bytes(alloc)?;
+    let answers = f.list()?;
+    on_memory(alloc, words, &given, |log, received| {
+        bus::spi_bus::transfer(limit, log, answers, received, &sent)
+    })
 }
 
-fn transfer(f: &[u32], out: &mut [u8]) -> usize
-    ensures { IsPrefixLen result out.new }
-{
-    let mut received = [0u8; 4096];
-    let mut sent = [0u8; 4096];
-    let first = fields::bytes(f, 2, &mut received);
-    let len = first.len;
-    let second = fields::bytes(f, first.next, &mut sent);
-    let sent_len = second.len;
-    let next = second.next;
-    if !fields::ends_with_list(f, next) {
-        return 0;
-    }
-    let given = received;
-    let mut log = [text::UNTOUCHED; 8192];
-    let words = fields::log_words(f, 1, &log);
-    let p = bus::spi_bus::transfer(
-        fields::at(f, 0),
-        &mut log[..words],
-        fields::list(f, next),
-        &mut received[..len],
-        &sent[..sent_len],
-    );
-    let at = text::ended(out, &log, p);
-    text::changes(out, at, &given, &received)
+pub fn transfer_in_place(alloc: Global, mut f: Fields<'_>) -> Result<Vec<u8>, Failure> {
+    let limit = f.number()?;
+    let words = f.number()?;
+    let given = f.bytes(alloc)?;
+    let answers = f.list()?;
+    on_memory(alloc, words, &given, |log, bytes| {
+        bus::spi_bus::transfer_in_place(limit, log, answers, bytes)
+    })
 }
 
-fn transfer_in_place(f: &[u32], out: &mut [u8]) -> usize
-    ensures { IsPrefixLen result out.new }
-{
-    let mut words = [0u8; 4096];
-    let part = fields::bytes(f, 2, &mut words);
-    let len = part.len;
-    let next = part.next;
-    if !fields::ends_with_list(f, next) {
-        return 0;
-    }
-    let given = words;
-    let mut log = [text::UNTOUCHED; 8192];
-    let log_words = fields::log_words(f, 1, &log);
-    let p = bus::spi_bus::transfer_in_place(
-        fields::at(f, 0),
-        &mut log[..log_words],
-        fields::list(f, next),
-        &mut words[..len],
-    );
-    let at = text::ended(out, &log, p);
-    text::changes(out, at, &given, &words)
+pub fn flush(alloc: Global, mut f: Fields<'_>) -> Result<Vec<u8>, Failure> {
+    let limit = f.number()?;
+    let words = f.number()?;
+    let answers = f.list()?;
+    logged(alloc, words, |log| bus::spi_bus::flush(limit, log, answers))
 }
 
-fn flush(f: &[u32], out: &mut [u8]) -> usize
-    ensures { IsPrefixLen result out.new }
-{
-    if !fields::ends_with_list(f, 2) {
-        return 0;
-    }
-    let mut log = [text::UNTOUCHED; 8192];
-    let words = fields::log_words(f, 1, &log);
-    let p = bus::spi_bus::flush(fields::at(f, 0), &mut log[..words], fields::list(f, 2));
-    text::ended(out, &log, p)
-}
-
-fn transaction(f: &[u32], out: &mut [u8]) -> usize
-    ensures { IsPrefixLen result out.new }
-{
-    let mut memory = [0u8; 4096];
-    let records = fields::words(f, 2);
-    let start = records.next - records.len;
-    let from = records.next;
-    let part = fields::bytes(f, from, &mut memory);
-    let len = part.len;
-    let next = part.next;
-    if !fields::ends_with_list(f, next) {
-        return 0;
-    }
-    let given = memory;
-    let mut log = [text::UNTOUCHED; 8192];
-    let words = fields::log_words(f, 1, &log);
-    let p = chain::transaction(
-        fields::at(f, 0),
-        &mut log[..words],
-        fields::list(f, next),
-        &mut memory[..len],
-        &f[start..from],
-    );
-    let at = text::ended(out, &log, p);
-    text::changes(out, at, &given, &memory)
+pub fn transaction(alloc: Global, mut f: Fields<'_>) -> Result<Vec<u8>, Failure> {
+    let limit = f.number()?;
+    let words = f.number()?;
+    let records = f.words()?;
+    let given = f.bytes(alloc)?;
+    let answers = f.list()?;
+    on_memory(alloc, words, &given, |log, memory| {
+        chain::transaction(limit, log, answers, memory, records)
+    })
 }
 
 // The log of a sheet has 4,096 entries.
-fn sheet(f: &[u32], out: &mut [u8]) -> usize
-    ensures { IsPrefixLen result out.new }
-{
-    let mut bytes = [0u8; 4096];
-    let part = fields::bytes(f, 0, &mut bytes);
-    let len = part.len;
-    if !part.found || part.next != f.len() {
-        return 0;
-    }
-    let given = bytes;
-    let mut log = [text::UNTOUCHED; 8192];
-    let p = sheet_run::run(&mut bytes[..len], &mut log);
-    let at = text::ended(out, &log, p);
-    text::changes(out, at, &given, &bytes)
+pub fn sheet(alloc: Global, mut f: Fields<'_>) -> Result<Vec<u8>, Failure> {
+    let given = f.bytes(alloc)?;
+    f.end()?;
+    on_memory(alloc, u32::MAX, &given, |log, bytes| {
+        sheet_run::run(bytes, log)
+    })
 }

@@ -1,162 +1,101 @@
-// Replays the list of cases on standard input: makes each case's call on the library and compares what it did with the answer that follows the case.
+// Replays the list of cases on standard input: makes each case's call on the library and compares what it did with the
+// answer that follows the case.
 #![tactic(auto)]
 
-ghost use Rattle.std.specs.Prelude.{◌≤◌, ◌<◌, length};
-ghost use Rattle.io.specs.Counts.{IsPrefixLen};
+ghost use Rattle.std.specs.Prelude.{◌≤◌, length};
 
+use failure::Failure;
+use fields::Fields;
+use std::alloc::Global;
+use std::io;
+use std::io::Read;
 use verdicts::{Tally, Verdict};
 
 mod call;
+mod failure;
 mod fields;
 mod opening_call;
 mod quad_call;
 mod text;
 mod value;
 
+// The line after a case and its answer, with the line end before it.
+const END: usize = 3;
+
+// A case that is longer, with its end, is a difference, and nothing after it is replayed.
+const LONGEST_CASE: usize = 65_536;
+
 // The first difference, if there is one, and the counts.
-fn report(tally: Tally) {
-    let first = tally.first;
-    if first > 0 {
-        io::write_all(1, b"first difference: case ");
-        io::print_decimal(1, first);
-        io::write_all(1, b"\n");
+fn report(rt: &impl Print, tally: Tally) -> io::Result<()> {
+    let Tally {
+        replayed,
+        excluded,
+        differ,
+        first,
+    } = tally;
+    if let Some(case) = first {
+        println!(rt; "first difference: case {case}")?;
     }
-    io::print_decimal(1, tally.replayed);
-    io::write_all(1, b" replayed, ");
-    io::print_decimal(1, tally.excluded);
-    io::write_all(1, b" excluded, ");
-    io::print_decimal(1, tally.differ);
-    io::write_all(1, b" differ\n");
+    println!(rt; "{replayed} replayed, {excluded} excluded, {differ} differ")
 }
 
-// Writes the lines of the library's answer to a case, and answers how many bytes they take; 0 for what is no case.
-fn answer(name: &[u8], f: &[u32], out: &mut [u8]) -> usize
-    ensures { IsPrefixLen result out.new }
-{
-    let called = call::answer(name, f, out);
-    if called > 0 {
-        return called;
+// The lines of the library's answer to a case.
+fn answer(alloc: Global, line: &[u8]) -> Result<Vec<u8>, Failure> {
+    let numbers = fields::parse(alloc, line)?;
+    let f = Fields { rest: &numbers };
+    match fields::name(line) {
+        b"write" => call::write(alloc, f),
+        b"read" => call::read(alloc, f),
+        b"transfer" => call::transfer(alloc, f),
+        b"inplace" => call::transfer_in_place(alloc, f),
+        b"flush" => call::flush(alloc, f),
+        b"transaction" => call::transaction(alloc, f),
+        b"sheet" => call::sheet(alloc, f),
+        b"quadread" => quad_call::read_quad(alloc, f),
+        b"quadwrite" => quad_call::write_quad(alloc, f),
+        b"mode" => quad_call::set_work_mode(alloc, f),
+        b"open" => opening_call::open(alloc, f),
+        b"free" => opening_call::free(alloc, f),
+        b"clock" => value::select_clock(alloc, f),
+        b"sck" => value::actual_sck(alloc, f),
+        b"dummy" => value::dummy_bytes(alloc, f),
+        _ => Err(Failure::NoCase),
     }
-    let quad = quad_call::answer(name, f, out);
-    if quad > 0 {
-        return quad;
-    }
-    let opened = opening_call::answer(name, f, out);
-    if opened > 0 {
-        return opened;
-    }
-    value::answer(name, f, out)
 }
 
 // One case: its line, and the lines of its answer.
-fn replay(case: &[u8]) -> Verdict {
-    let line = cases::find(case, 0, case.len(), b'\n');
-    let name = cases::find(case, 0, line, b' ');
-    let mut numbers = [0u32; 2048];
-    let count = fields::parse(&case[name..line], &mut numbers);
-    let mut out = [0u8; 65664];
-    let length = answer(&case[..name], &numbers[..count], &mut out);
-    if length == 0 {
-        return Verdict::Different;
-    }
-    if line == case.len() {
-        return Verdict::Different;
-    }
-    let from = line + 1;
-    verdicts::judge(&case[from..], &out[..length])
-}
-
-// The tally after some cases, and the bytes that they take.
-#[derive(Clone, Copy)]
-struct Replayed {
-    tally: Tally,
-    used: usize,
-}
-
-// Every whole case of the text.
-fn replay_all(text: &[u8], tally: Tally) -> Replayed
-    ensures { result.used ≤ length text.now }
-{
-    let mut tally = tally;
-    let mut at: usize = 0;
-    loop {
-        let end = cases::case_end(text, at);
-        if text.len() - end < 3 {
-            return Replayed { tally, used: at };
-        }
-        let next = end + 3;
-        tally = tally.counted(replay(&text[at..end + 1]));
-        at = next;
+fn replay(alloc: Global, case: &[u8]) -> io::Result<Verdict> {
+    let Some(end) = cases::find(case, 0, case.len(), b'\n') else {
+        return Ok(Verdict::Different);
+    };
+    match answer(alloc, &case[..end]) {
+        Ok(library) => Ok(verdicts::judge(&case[end + 1..], &library)),
+        Err(Failure::NoCase) => Ok(Verdict::Different),
+        Err(Failure::Io(e)) => Err(e),
     }
 }
 
-// Moves the bytes from `from` to `to` to the start, and answers how many they are.
-fn shift(text: &mut [u8], from: usize, to: usize) -> usize
-    requires from_le_to { from ≤ to }
-    requires to_in_bounds { to ≤ length text.old }
-    ensures { result ≤ length text.old }
-{
-    let n = to - from;
-    let mut i = 0;
-    while i < n {
-        text[i] = text[from + i];
-        i += 1;
-    }
-    n
-}
-
-// What a piece of the input leaves: bytes at the start of the text, and whether a case was found.
-#[derive(Clone, Copy)]
-struct Left {
-    tally: Tally,
-    have: usize,
-    found: bool,
-}
-
-// Reads on after the bytes at hand, and replays every whole case.
-fn replay_piece(text: &mut [u8], have: usize, tally: Tally) -> Left
-    requires { have ≤ length text.old }
-    ensures { result.have ≤ length text.old }
-{
-    let got = io::read_full(0, &mut text[have..]);
-    let all = have + got;
-    let done = replay_all(&text[..all], tally);
-    let tally = done.tally;
-    let used = done.used;
-    let have = shift(text, used, all);
-    Left {
-        tally,
-        have,
-        found: used > 0,
-    }
-}
-
-// None after a piece without a case.
-fn turns_left(turns: u32, found: bool) -> u32
-    requires { 0 < turns }
-    ensures { result < turns }
-{
-    if found { turns - 1 } else { 0 }
-}
-
-// The cases of standard input, piece by piece. What is left and is no whole case is a difference.
-fn replay_input(text: &mut [u8]) -> Tally {
-    let mut have: usize = 0;
+// Every case of the text. What is left and is no whole case is a difference.
+fn replay_all(alloc: Global, text: &[u8]) -> io::Result<Tally> {
     let mut tally = Tally::new();
-    let mut turns: u32 = 1_000_000;
-    while turns > 0 {
-        let left = replay_piece(text, have, tally);
-        tally = left.tally;
-        have = left.have;
-        turns = turns_left(turns, left.found);
+    let mut at = 0;
+    while let Some(end) = cases::case_end(text, at) {
+        if end + END - at > LONGEST_CASE {
+            break;
+        }
+        tally = tally.counted(replay(alloc, &text[at..end + 1])?);
+        at = end + END;
     }
-    if have > 0 {
-        return tally.counted(Verdict::Different);
+    if at < text.len() {
+        tally = tally.counted(Verdict::Different);
     }
-    tally
+    Ok(tally)
 }
 
-fn main() {
-    let mut text = [0u8; 65536];
-    report(replay_input(&mut text));
+fn main(rt: HostRuntime) -> io::Result<()> {
+    let alloc = rt.alloc();
+    let mut text = Vec::new(alloc);
+    // A read error is taken as the end of the input.
+    let _ = rt.reader().read_to_end(&mut text);
+    report(&rt, replay_all(alloc, &text)?)
 }

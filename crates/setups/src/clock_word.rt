@@ -1,39 +1,54 @@
 // The module clock's word, at the place of its instance.
-ghost use Rattle.std.specs.Prelude.{◌≡◌};
-ghost use Rattle.setups.specs.Of.{clock_word};
+ghost use Rattle.model.specs.Steps.{change};
+ghost use Rattle.access.specs.Makes.{Makes};
+ghost use Rattle.setups.specs.Of.{clock_on, reset_on, reset_off, clock_off};
 
+use access::RegisterBlock;
+use config::QspiError;
 use registers::NormalModuleClock;
 
-#[derive(Clone, Copy)]
-pub enum ClockWord {
-    // The divider, and both enables.
-    On(u8),
-    // Reset asserted.
-    ResetOn,
-    // Reset released.
-    ResetOff,
-    // Both enables off, reset asserted.
-    Off,
+// The divider, and both enables.
+pub fn enable(block: &mut RegisterBlock<'_>, place: u16, div: u8) -> Result<(), QspiError>
+    ensures { Makes (change place (clock_on div)) block.old block.new result }
+{
+    block.modify(place, |word| {
+        NormalModuleClock(word)
+            .set_module_clk_div(div)
+            .enable_module_clk()
+            .enable_bus_clk()
+            .0
+    })
 }
 
-impl ClockWord {
-    // What is written for a word that was read.
-    pub fn apply(self, word: u32) -> u32
-        ensures { result ≡ clock_word self word }
-    {
-        match self {
-            ClockWord::On(div) => NormalModuleClock(word)
-                .set_module_clk_div(div)
-                .enable_module_clk()
-                .enable_bus_clk()
-                .0,
-            ClockWord::ResetOn => NormalModuleClock(word).enable_module_reset().0,
-            ClockWord::ResetOff => NormalModuleClock(word).disable_module_reset().0,
-            ClockWord::Off => NormalModuleClock(word)
-                .disable_module_clk()
-                .disable_bus_clk()
-                .enable_module_reset()
-                .0,
-        }
-    }
+// Reset asserted.
+pub fn assert_reset(block: &mut RegisterBlock<'_>, place: u16) -> Result<(), QspiError>
+    ensures { Makes (change place reset_on) block.old block.new result }
+{
+    block.modify(
+        place,
+        |word| NormalModuleClock(word).enable_module_reset().0,
+    )
+}
+
+// Reset released.
+pub fn release_reset(block: &mut RegisterBlock<'_>, place: u16) -> Result<(), QspiError>
+    ensures { Makes (change place reset_off) block.old block.new result }
+{
+    block.modify(
+        place,
+        |word| NormalModuleClock(word).disable_module_reset().0,
+    )
+}
+
+// Both enables off, reset asserted.
+pub fn disable(block: &mut RegisterBlock<'_>, place: u16) -> Result<(), QspiError>
+    ensures { Makes (change place clock_off) block.old block.new result }
+{
+    block.modify(place, |word| {
+        NormalModuleClock(word)
+            .disable_module_clk()
+            .disable_bus_clk()
+            .enable_module_reset()
+            .0
+    })
 }

@@ -1,10 +1,6 @@
-// The changes of an opening and a release: what blocking.rs's `new` and `free` make of a word read.
+// The changes of an opening and a release: what blocking.rs's `new` and `free` make of a register's word, at its place.
 #![tactic(auto)]
 
 pub mod clock_word;
 pub mod controller;
 pub mod transfers;
-
-pub use clock_word::ClockWord;
-pub use controller::Controller;
-pub use transfers::Transfer;

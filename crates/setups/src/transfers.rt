@@ -1,8 +1,12 @@
 // How transfers go: the transfer configuration, and the lines of the work mode that a bus opens in.
 ghost use Rattle.std.specs.Prelude.{◌≡◌, cond};
 ghost use Rattle.model.specs.Field.{set_field};
-ghost use Rattle.setups.specs.Of.{transfer_at, transfer};
+ghost use Rattle.model.specs.Steps.{change};
+ghost use Rattle.access.specs.Makes.{Makes};
+ghost use Rattle.setups.specs.Of.{formatted, chip_selected, sampling, bus_set, dual_on, quad_on, qpi_on};
 
+use access::RegisterBlock;
+use config::QspiError;
 use registers::{
     BitModeTransConfig, BusMode, CsCtrlMode, CsLevel, CsPin, Phase, Polarity, TransMiscControl,
     TransferConfig,
@@ -28,65 +32,80 @@ fn sampled(config: TransferConfig, slow: bool) -> TransferConfig
     config.enable_rx_data_delay()
 }
 
-#[derive(Clone, Copy)]
-pub enum Transfer {
-    // Phase, polarity, who controls the chip select, low bit first.
-    Format(Phase, Polarity, CsCtrlMode, bool),
-    // The chip-select record.
-    ChipSelect(Polarity, CsLevel, CsPin),
-    // Sampling: the rate is not above the oscillator's.
-    Sampling(bool),
-    // Bytes or bits.
-    Bus(BusMode),
-    // Two data lines on.
-    Dual,
-    // Four data lines on.
-    Quad,
-    // QPI on.
-    Qpi,
+// Phase, polarity, who controls the chip select, low bit first.
+pub fn format(
+    block: &mut RegisterBlock<'_>,
+    phase: Phase,
+    polarity: Polarity,
+    cs_ctrl_mode: CsCtrlMode,
+    lsb_first: bool,
+) -> Result<(), QspiError>
+    ensures { Makes (change 0x008 (formatted phase polarity cs_ctrl_mode lsb_first)) block.old block.new result }
+{
+    block.modify(0x008, |word| {
+        let config = TransferConfig(word)
+            .enable_discard_invalid_data()
+            .set_clk_pha(phase)
+            .set_clk_pol(polarity)
+            .set_cs_ctrl_mode(cs_ctrl_mode)
+            .enable_tx_data_delay();
+        ordered(config, lsb_first).0
+    })
 }
 
-impl Transfer {
-    pub fn place(self) -> u16
-        ensures { result ≡ transfer_at self }
-    {
-        match self {
-            Transfer::Format(_, _, _, _) => 0x008,
-            Transfer::ChipSelect(_, _, _) => 0x008,
-            Transfer::Sampling(_) => 0x008,
-            Transfer::Bus(_) => 0x040,
-            Transfer::Dual => 0x038,
-            Transfer::Quad => 0x038,
-            Transfer::Qpi => 0x038,
-        }
-    }
+// The chip-select record.
+pub fn select_chip(
+    block: &mut RegisterBlock<'_>,
+    polarity: Polarity,
+    level: CsLevel,
+    pin: CsPin,
+) -> Result<(), QspiError>
+    ensures { Makes (change 0x008 (chip_selected polarity level pin)) block.old block.new result }
+{
+    block.modify(0x008, |word| {
+        TransferConfig(word)
+            .set_cs_pol(polarity)
+            .set_cs_level(level)
+            .set_cs_pin_num(pin)
+            .0
+    })
+}
 
-    // What is written for a word that was read.
-    pub fn apply(self, word: u32) -> u32
-        ensures { result ≡ transfer self word }
-    {
-        match self {
-            Transfer::Format(phase, polarity, cs_ctrl_mode, lsb_first) => {
-                let config = TransferConfig(word)
-                    .enable_discard_invalid_data()
-                    .set_clk_pha(phase)
-                    .set_clk_pol(polarity)
-                    .set_cs_ctrl_mode(cs_ctrl_mode)
-                    .enable_tx_data_delay();
-                ordered(config, lsb_first).0
-            }
-            Transfer::ChipSelect(polarity, level, pin) => TransferConfig(word)
-                .set_cs_pol(polarity)
-                .set_cs_level(level)
-                .set_cs_pin_num(pin)
-                .0,
-            Transfer::Sampling(slow) => sampled(TransferConfig(word), slow)
-                .disable_rx_inner_delay()
-                .0,
-            Transfer::Bus(mode) => BitModeTransConfig(word).set_bus_mode(mode).0,
-            Transfer::Dual => TransMiscControl(word).enable_dual().0,
-            Transfer::Quad => TransMiscControl(word).enable_quad().0,
-            Transfer::Qpi => TransMiscControl(word).enable_qpi().0,
-        }
-    }
+// Sampling: the rate is not above the oscillator's.
+pub fn sample(block: &mut RegisterBlock<'_>, slow: bool) -> Result<(), QspiError>
+    ensures { Makes (change 0x008 (sampling slow)) block.old block.new result }
+{
+    block.modify(0x008, |word| {
+        sampled(TransferConfig(word), slow)
+            .disable_rx_inner_delay()
+            .0
+    })
+}
+
+// Bytes or bits.
+pub fn set_bus_mode(block: &mut RegisterBlock<'_>, mode: BusMode) -> Result<(), QspiError>
+    ensures { Makes (change 0x040 (bus_set mode)) block.old block.new result }
+{
+    block.modify(0x040, |word| BitModeTransConfig(word).set_bus_mode(mode).0)
+}
+
+// Two data lines on.
+pub fn enable_dual(block: &mut RegisterBlock<'_>) -> Result<(), QspiError>
+    ensures { Makes (change 0x038 dual_on) block.old block.new result }
+{
+    block.modify(0x038, |word| TransMiscControl(word).enable_dual().0)
+}
+
+// Four data lines on.
+pub fn enable_quad(block: &mut RegisterBlock<'_>) -> Result<(), QspiError>
+    ensures { Makes (change 0x038 quad_on) block.old block.new result }
+{
+    block.modify(0x038, |word| TransMiscControl(word).enable_quad().0)
+}
+
+// QPI on.
+pub fn enable_qpi(block: &mut RegisterBlock<'_>) -> Result<(), QspiError>
+    ensures { Makes (change 0x038 qpi_on) block.old block.new result }
+{
+    block.modify(0x038, |word| TransMiscControl(word).enable_qpi().0)
 }

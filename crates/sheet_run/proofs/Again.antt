@@ -12,7 +12,7 @@ use Rattle.lines.specs.Text.{printed}
 use Rattle.sheet.specs.Sheet.{Parsed, refused, sheet, parse, continued_bytes}
 use Rattle.sheet.proofs.SheetLaws.{continues}
 use Rattle.sheet_run.specs.Run.{chain_in, sheet_outcome, sheet_state}
-use Rattle.sheet_run.specs.Print.{progress_in, end_state, printed_sheet}
+use Rattle.sheet_run.specs.Print.{ending_in, end_state, printed_sheet}
 use Rattle.sheet_run.specs.Laws.{SheetAgain, LinesAgain}
 
 pub sheet_again : SheetAgain
@@ -27,7 +27,7 @@ sheet_again l xs bs c log = by (parse bs) refl
 
 -- the lines of an outcome
 lines_of : State → List ℕ
-lines_of st = printed st.log (progress_in st)
+lines_of st = printed st.log (ending_in st)
 
 lines_are : (bs : List ℕ) → printed_sheet bs ≡ lines_of (sheet_outcome (parse bs) (replicate 8192 0))
 unfolding printed_sheet end_state sheet_state lines_of

@@ -12,10 +12,10 @@ use Rattle.model.proofs.Kept.{every_advance_keeps}
 use Rattle.chain.specs.Transaction.{outcome}
 use Rattle.sheet.specs.Sheet.{Parsed, refused, sheet, parse}
 use Rattle.access.specs.declared.progress.Progress.{Progress}
-use Rattle.lines.specs.Text.{printed, Wrote}
+use Rattle.lines.specs.Text.{printed, Wrote, ending_of}
 use Rattle.sheet_run.specs.Text.{filled, Behind}
 use Rattle.sheet_run.specs.Run.{sheet_outcome, sheet_state, RunsSheet}
-use Rattle.sheet_run.specs.Print.{progress_in, end_state, printed_sheet, Prints}
+use Rattle.sheet_run.specs.Print.{ending_in, end_state, printed_sheet, Prints}
 
 called_fits : (n : ℕ) (s : Steps) (limit : ℕ) (answers log m : List ℕ) → (called n s limit answers log m).entries * 2 ≤ length log
 called_fits n s limit answers log m =
@@ -40,12 +40,12 @@ module _ (bs : List ℕ) {p : Progress} {log' bs' : List ℕ} (d : RunsSheet bs 
 
   pub prints :
       {text : List ℕ} {n : ℕ}
-      → Wrote (replicate 65664 0) 0 text n (printed log' p)
+      → Wrote (replicate 65664 0) 0 text n (printed log' (ending_of p))
       → Behind text n × Prints bs (take n text) bs'
   unfolding printed_sheet end_state
   prints {text} {n} w =
-      let x = printed log' p in
-      let e : x ≡ printed_sheet bs = ap (λ st. printed st.log (progress_in st)) d.state in
+      let x = printed log' (ending_of p) in
+      let e : x ≡ printed_sheet bs = ap (λ st. printed st.log (ending_in st)) d.state in
       let z : 0 + length x ≡ length x = omega arith in
       let l : n ≡ length x = w.place ∙ z in
       let t : text ≡ filled x = w.text ∙ ap (λ k. x ++ drop k (replicate 65664 0)) z in

@@ -6,6 +6,7 @@ use native.Mathlib.Omega.{arith}
 use lib.ListN.{length, take, drop, length-drop, take-append-drop}
 use Rattle.model.specs.State.{begun, with_number, with_memory}
 use Rattle.model.proofs.Called.{limit_never, called_never, refusal_not_met}
+use Rattle.std.specs.Prelude.{Ok, Err}
 use Rattle.records.specs.Check.{Checked, checked, verdict, number_of, chain_of}
 use Rattle.records.specs.Laws.{EachFault}
 use Rattle.records.proofs.Lengths.{never_6}
@@ -38,8 +39,8 @@ refused_leaves bs log = by (parse bs) refl
     by (sheet s) e i = rw (chain_refused (chain_in s) s.limit s.answers log s.memory i, rejoined bs s e) refl
 
 fault_never : (c : Checked) → EachFault (λ n. n ≡ 6 → ⊥) c → number_of (verdict c) ≡ 6 → ⊥
-fault_never (Checked.fault n i) f e = f e
-fault_never (Checked.chain rs) f e = omega (arith, e)
+fault_never (Err g) f e = f e
+fault_never (Ok rs) f e = omega (arith, e)
 
 memory_short : (bs : List ℕ) (s : Sheet) → parse bs ≡ sheet s → length s.memory ≤ 0xFFFFFF
 memory_short bs s e =

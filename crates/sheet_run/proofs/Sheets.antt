@@ -10,12 +10,13 @@ use lib.ListN.{length, take, drop, length-drop, drop_of_length-le}
 use lib.Seq.{take_all, length-take-le, drop-drop}
 use Rattle.model.specs.State.{with_memory}
 use Rattle.access.specs.declared.progress.Progress.{Progress}
-use Rattle.access.specs.Of.{begun, with_number}
+use Rattle.config.specs.declared.error.QspiError.TheVariants.{Sheet}
+use Rattle.access.specs.Of.{refused}
 use Rattle.chain.specs.Transaction.{Transacts}
 use Rattle.sheet.specs.declared.Header.{Header}
 use Rattle.sheet.specs.Words.{word_at, words}
 use Rattle.sheet.specs.Sheet.{sheet, parse, sheet_of, judged, record_count, answer_count, memory_from, answers_from}
-use Rattle.sheet.specs.Open.{header_of, opened, number_of}
+use Rattle.sheet.specs.Open.{header_of, opened}
 use Rattle.sheet.proofs.SheetLaws.{Accepted, is_accepted}
 use Rattle.sheet.proofs.OpenLaws.{opened_is, refused_is}
 use Rattle.sheet_run.specs.Run.{sheet_outcome, sheet_state, RunsSheet}
@@ -64,13 +65,12 @@ module _ (n a : ℕ) (bs : List ℕ) {ws : List ℕ} (e : ws ≡ words (n + a) (
 
 -- 13
 pub sheet_refused :
-    (bs log : List ℕ) {p q : Progress}
+    (bs log : List ℕ) {p : Progress}
     → opened bs ≡ None
-    → p ≡ begun
-    → q ≡ with_number (number_of None) p
-    → RunsSheet bs log q log bs
+    → p ≡ refused Sheet
+    → RunsSheet bs log p log bs
 unfolding sheet_state sheet_outcome
-sheet_refused bs log e b f = record { state = rw (f, b, refused_is bs e) refl }
+sheet_refused bs log e f = record { state = rw (f, refused_is bs e) refl }
 
 module _ (bs log : List ℕ) (ok : Accepted bs) where
   parsed : parse bs ≡ sheet (sheet_of bs)

@@ -6,13 +6,14 @@ ghost use Rattle.sheet.specs.Open.{opened};
 ghost use Rattle.sheet_run.specs.Run.{RunsSheet};
 
 use access::Progress;
-use config::number;
+use chain::Request;
+use config::QspiError;
 use sheet::Header;
 
 pub mod print;
 
-// A sheet of this header, whose records and answers are read into a room of N words. It is always inlined: as a
-// function of its own it copies the progress once more, which document 01's sheet shows.
+// A sheet of this header, whose records and answers are read into a room of N words. It is always inlined: while it
+// was a function of its own, document 01's sheet took longer.
 #[inline(always)]
 fn run_in<const N: usize>(bytes: &mut [u8], log: &mut [u32], h: &Header) -> Progress
     requires header { opened bytes.old ≡ Some h.now }
@@ -25,16 +26,13 @@ fn run_in<const N: usize>(bytes: &mut [u8], log: &mut [u32], h: &Header) -> Prog
     let words = &mut room[..n + h.answers];
     sheet::fill(&bytes[20..], words);
     let (records, answers) = words.split_at(n);
-    chain::transact(
-        h.limit,
-        h.rate,
-        h.qpi,
-        9,
-        log,
-        answers,
-        &mut bytes[h.memory..],
-        records,
-    )
+    let request = Request {
+        rate: h.rate,
+        qpi: h.qpi,
+        highest: 9,
+        words: records,
+    };
+    chain::transact(h.limit, log, answers, &mut bytes[h.memory..], request)
 }
 
 // However many words the sheet has. It is not inlined: a smaller sheet does not touch the stack of these rooms.
@@ -56,7 +54,7 @@ pub fn run(bytes: &mut [u8], log: &mut [u32]) -> Progress
     ensures { RunsSheet bytes.old log.old result log.new bytes.new }
 {
     let Some(h) = sheet::open(bytes) else {
-        return Progress::new().ended(number::SHEET);
+        return Progress::refused(QspiError::Sheet);
     };
     match 8 * h.records + h.answers {
         0..=64 => run_in::<64>(bytes, log, &h),

@@ -1,3 +1,3 @@
-pub mod Laws
-pub mod Tallies
 pub mod Equal
+pub mod Ends
+pub mod Laws

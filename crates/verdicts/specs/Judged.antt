@@ -1,8 +1,9 @@
 -- What the comparison of a case finds (tests/oracle/README.md says what an answer is).
-use Rattle.std.specs.Prelude.{ℕ, ◌-◌, Bool, false, cond, ◌&&◌, ◌||◌, List, [], ◌∷◌, length, take, drop, ◌==◌, nat_le}
-use Rattle.cases.specs.Find.{index_of}
+use Rattle.std.specs.Prelude.{ℕ, ◌-◌, Bool, false, cond, ◌&&◌, ◌||◌, List, [], ◌∷◌, length, take, drop, ◌==◌, nat_eq}
+use Rattle.std.specs.Prelude.{nat_le, bytes_eq}
+use Rattle.std.specs.List.{starts_with, position_or_len, before_first, list_any, slice_split}
+use Rattle.std.specs.Option.{option_map_or}
 use Rattle.cases.specs.Number.{number_of}
-use Rattle.cases.specs.Same.{same_bytes}
 use Rattle.verdicts.specs.declared.Verdict.{Verdict}
 
 -- "refused"
@@ -35,20 +36,22 @@ no_rate = 10 ∷ 114 ∷ 97 ∷ 116 ∷ 101 ∷ 32 ∷ 48 ∷ 10 ∷ []
 
 -- a line that only the oracle has: "refused", "none", or "panic " and what follows
 unfoldable pub oracles_own : List ℕ → Bool
-oracles_own line = same_bytes line refused_word || (same_bytes line none_word || same_bytes (take 6 line) panic_word)
+oracles_own line = bytes_eq line refused_word || (bytes_eq line none_word || starts_with nat_eq line panic_word)
+
+abbrev pub is_line_end : ℕ → Bool
+is_line_end b = b == 10
 
 -- the first line, without its line end
 abbrev pub line_of : List ℕ → List ℕ
-line_of text = take (index_of 10 text) text
+line_of text = before_first is_line_end text
 
--- such a line after one of the line ends
-unfoldable pub own_after : List ℕ → Bool
-own_after [] = false
-own_after (b ∷ bs) = cond (b == 10) (oracles_own (line_of bs)) false || own_after bs
+-- what stands from the end of the first line on
+abbrev pub rest_of : List ℕ → List ℕ
+rest_of text = drop (position_or_len is_line_end text) text
 
 -- one of the lines is the oracle's own
 unfoldable pub has_own : List ℕ → Bool
-has_own text = oracles_own (line_of text) || own_after text
+has_own text = list_any oracles_own (slice_split is_line_end text)
 
 -- the numbers of calls that are refused: 3 to 9, and 13
 unfoldable pub refusing : ℕ → Bool
@@ -58,19 +61,19 @@ refusing n = (nat_le 3 n && nat_le n 9) || n == 13
 unfoldable pub refused_end : List ℕ → Bool
 refused_end line =
     nat_le 13 (length line)
-    && (same_bytes (take 4 line) end_word
-    && (same_bytes (drop (length line - 8) line) zeros
-    && refusing (number_of (take (length line - 12) (drop 4 line)))))
+    && (bytes_eq (take 4 line) end_word
+    && (bytes_eq (drop (length line - 8) line) zeros
+    && option_map_or refusing (number_of (take (length line - 12) (drop 4 line))) false))
 
--- the whole answer of a refused call: its end line, and "rate 0" for an opening; or "sck 12 0" for dividers that do not exist
+-- the whole answer of a refused call: its end line, and "rate 0" for an opening; or "sck 12 0" for dividers that do
+-- not exist
 unfoldable pub refused : List ℕ → Bool
 refused text =
-    same_bytes text no_sck
-    || (refused_end (line_of text)
-    && (same_bytes (drop (index_of 10 text) text) (10 ∷ []) || same_bytes (drop (index_of 10 text) text) no_rate))
+    bytes_eq text no_sck
+    || (refused_end (line_of text) && (bytes_eq (rest_of text) (10 ∷ []) || bytes_eq (rest_of text) no_rate))
 
 -- the same answer; excluded where the oracle has none of the kind and the library refuses the call; else different
 unfoldable pub judged : List ℕ → List ℕ → Verdict
 judged oracle library =
-    cond (same_bytes oracle library) Verdict.Same
+    cond (bytes_eq oracle library) Verdict.Same
     (cond (has_own oracle && refused library) Verdict.Excluded Verdict.Different)

@@ -6,10 +6,8 @@ ghost use Rattle.verdicts.specs.Judged.{oracles_own, has_own, refusing, refused_
 ghost use Rattle.verdicts.specs.Tallied.{none, tallied};
 ghost use Rattle.verdicts.specs.declared.Verdict.{Verdict};
 
-use std::num::wrapping_add_u64;
-
 // What the comparison of a case found.
-#[derive(Clone, Copy)]
+#[derive(Clone, Copy, Debug, PartialEq, Eq)]
 pub enum Verdict {
     Same,
     // The oracle has no such answer, and the library refuses the call.
@@ -17,13 +15,14 @@ pub enum Verdict {
     Different,
 }
 
-// How many cases were compared, excluded and different; `first` is the number of the first that differs, from 1, or 0. Each goes round at 2^64.
-#[derive(Clone, Copy)]
+// How many cases were compared, excluded and different, and the number of the first that differs, from 1. Each goes
+// round at 2^64.
+#[derive(Clone, Copy, Debug, Default, PartialEq, Eq)]
 pub struct Tally {
     pub replayed: u64,
     pub excluded: u64,
     pub differ: u64,
-    pub first: u64,
+    pub first: Option<u64>,
 }
 
 impl Tally {
@@ -31,33 +30,19 @@ impl Tally {
     pub fn new() -> Tally
         ensures { result ≡ none }
     {
-        Tally {
-            replayed: 0,
-            excluded: 0,
-            differ: 0,
-            first: 0,
-        }
+        Tally::default()
     }
 
     fn different(self) -> Tally
         ensures { result ≡ tallied Verdict.Different self }
     {
-        let replayed = wrapping_add_u64(self.replayed, 1);
-        let differ = wrapping_add_u64(self.differ, 1);
-        let case = wrapping_add_u64(replayed, self.excluded);
-        if self.first == 0 {
-            return Tally {
-                replayed,
-                excluded: self.excluded,
-                differ,
-                first: case,
-            };
-        }
+        let replayed = self.replayed.wrapping_add(1);
+        let case = replayed.wrapping_add(self.excluded);
         Tally {
             replayed,
-            excluded: self.excluded,
-            differ,
-            first: self.first,
+            differ: self.differ.wrapping_add(1),
+            first: self.first.or(Some(case)),
+            ..self
         }
     }
 
@@ -67,16 +52,12 @@ impl Tally {
     {
         match verdict {
             Verdict::Same => Tally {
-                replayed: wrapping_add_u64(self.replayed, 1),
-                excluded: self.excluded,
-                differ: self.differ,
-                first: self.first,
+                replayed: self.replayed.wrapping_add(1),
+                ..self
             },
             Verdict::Excluded => Tally {
-                replayed: self.replayed,
-                excluded: wrapping_add_u64(self.excluded, 1),
-                differ: self.differ,
-                first: self.first,
+                excluded: self.excluded.wrapping_add(1),
+                ..self
             },
             Verdict::Different => self.different(),
         }
@@ -84,96 +65,69 @@ impl Tally {
 }
 
 // A line that only the oracle has: the Rust panics, or has no form for the case.
+#[tactic(auto, unfolding(crate::specs::Judged::oracles_own))]
 fn oracles_own_line(line: &[u8]) -> bool
     ensures { result ≡ oracles_own line.now }
 {
-    if cases::same(line, b"refused") {
-        return true;
-    }
-    if cases::same(line, b"none") {
-        return true;
-    }
-    if line.len() < 6 {
-        return false;
-    }
-    cases::same(&line[..6], b"panic ")
+    line == b"refused".as_slice() || line == b"none".as_slice() || line.starts_with(b"panic ")
 }
 
 fn has_oracles_own_line(answer: &[u8]) -> bool
     ensures { result ≡ has_own answer.now }
 {
-    let mut at: usize = 0;
-    while at < answer.len() {
-        let end = cases::find(answer, at, answer.len(), b'\n');
-        if oracles_own_line(&answer[at..end]) {
-            return true;
-        }
-        if end == answer.len() {
-            return false;
-        }
-        at = end + 1;
-    }
-    false
+    answer
+        .split(|b| *b == b'\n')
+        .any(|line| oracles_own_line(line))
 }
 
 // One of the numbers of a call that is refused.
-fn refuses(number: u64) -> bool
+#[tactic(auto, unfolding(crate::specs::Judged::refusing))]
+fn refuses(number: u32) -> bool
     ensures { result ≡ refusing number }
 {
-    if number < 3 {
-        return false;
-    }
-    if number < 10 {
-        return true;
-    }
-    number == 13
+    matches!(number, 3..=9 | 13)
 }
 
 // An end line with such a number and all counts 0.
 fn refusal_line(line: &[u8]) -> bool
     ensures { result ≡ refused_end line.now }
 {
-    if line.len() < 13 {
+    let Some(counts) = line.strip_prefix(b"end ") else {
         return false;
-    }
-    let digits = line.len() - 8;
-    if !cases::same(&line[..4], b"end ") {
+    };
+    let Some(word) = counts.strip_suffix(b" 0 0 0 0") else {
         return false;
+    };
+    match cases::number(word) {
+        Some(number) => refuses(number),
+        None => false,
     }
-    if !cases::same(&line[digits..], b" 0 0 0 0") {
-        return false;
-    }
-    refuses(cases::number(&line[4..digits]))
 }
 
 // A refused call: no entry, and no byte another. A refused opening has no rate, refused dividers no rate.
+#[tactic(auto, unfolding(crate::specs::Judged::refused))]
 fn is_refusal(answer: &[u8]) -> bool
     ensures { result ≡ refused answer.now }
 {
-    if cases::same(answer, b"sck 12 0\n") {
+    if answer == b"sck 12 0\n".as_slice() {
         return true;
     }
-    let line = cases::find(answer, 0, answer.len(), b'\n');
-    if !refusal_line(&answer[..line]) {
+    let Some(end) = cases::find(answer, 0, answer.len(), b'\n') else {
         return false;
-    }
-    if cases::same(&answer[line..], b"\n") {
-        return true;
-    }
-    cases::same(&answer[line..], b"\nrate 0\n")
+    };
+    let (line, rest) = answer.split_at(end);
+    refusal_line(line) && (rest == b"\n".as_slice() || rest == b"\nrate 0\n".as_slice())
 }
 
 // What the oracle answered against what the library did.
+#[tactic(auto, unfolding(crate::specs::Judged::judged))]
 pub fn judge(oracle: &[u8], library: &[u8]) -> Verdict
     ensures { result ≡ judged oracle.now library.now }
 {
-    if cases::same(oracle, library) {
+    if oracle == library {
         return Verdict::Same;
     }
-    if !has_oracles_own_line(oracle) {
-        return Verdict::Different;
-    }
-    if is_refusal(library) {
+    if has_oracles_own_line(oracle) && is_refusal(library) {
         return Verdict::Excluded;
     }
     Verdict::Different

@@ -2,100 +2,146 @@
 use mathlib.Core.Path.{◌≡◌, refl, ap, sym, ◌∙◌}
 use mathlib.Core.Bool.{Bool, true, false}
 use mathlib.Core.List.{List}
-use Prim.Native.Nat.{ℕ, suc, ◌+◌, ◌-◌, ◌<◌}
+use lib.ListN.{get_or}
+use Prim.Native.Nat.{ℕ, suc, ◌+◌, ◌-◌, ◌≤◌, ◌<◌}
 use native.Mathlib.Omega.{arith}
 use native.Mathlib.Numerals.{add-one}
+use Rattle.std.specs.Prelude.{Result, Ok, Err}
+use Rattle.std.specs.Int.NonZero.{non_zero_u32_get}
 use Rattle.model.specs.Wait.{Cause, place_of, count_of, ready}
 use Rattle.model.specs.Event.Ask.{register}
 use Rattle.model.specs.Event.Event.{polled}
 use Rattle.model.specs.Tally.{plus, poll_tally, tally_event}
 use Rattle.model.specs.Steps.{Steps}
 use Rattle.model.specs.Steps.End.{done}
-use Rattle.model.specs.Steps.Steps.{end, wait}
-use Rattle.model.specs.State.{advance}
+use Rattle.model.specs.Steps.Steps.{end, ask, wait}
+use Rattle.model.specs.State.{State, advance}
 use Rattle.model.proofs.Advance.{skipped}
 use Rattle.model.proofs.Next.{tallied, waiting, waits, poll_stopped, poll_ready, poll_unready, poll_late}
+use Rattle.config.specs.declared.error.QspiError.{QspiError}
+use Rattle.config.specs.declared.error.QspiError.TheVariants.{Timeout}
 use Rattle.access.specs.declared.progress.Tally.{Tally}
-use Rattle.access.specs.declared.progress.Progress.{Progress}
-use Rattle.access.specs.Of.{tally_in, state_of, with_number, with_tally}
-use Rattle.access.specs.Does.{Sound, Asks}
-use Rattle.waits.specs.Does.{Waits}
+use Rattle.access.specs.declared.block.RegisterBlock.{RegisterBlock}
+use Rattle.access.specs.Of.{tally_in, state_of}
+use Rattle.access.specs.Makes.{Lent, Queries, progress_at, stopped}
+use Rattle.access.proofs.Makes.{error_ne0, lent_then, lent_same}
+use Rattle.waits.specs.Does.{Polls}
+
+abbrev limit_of : RegisterBlock → ℕ
+limit_of b = non_zero_u32_get b.limit
+
+-- the state at a block
+abbrev at_block : Tally → Result (Unit {0}) QspiError → RegisterBlock → List ℕ → State
+at_block t e b m = state_of (progress_at t e b) b.log.now m
 
 -- the wait, n unready polls on
-pub record Polling (c : Cause) (limit : ℕ) (answers : List ℕ) (p : Progress) (log : List ℕ) (r : Progress) (log' : List ℕ) (n : ℕ) : Type 0 where
-  pub sound : Sound r
-  pub below : n < limit
+pub record Polling (c : Cause) (t : Tally) (b : RegisterBlock) (t' : Tally) (b' : RegisterBlock) (n : ℕ) : Type 0 where
+  pub sound : t'.polls ≤ b'.entries
+  pub below : n < non_zero_u32_get b.limit
+  pub lent : Lent b b'
   pub state : (m : List ℕ) (k : ℕ → Steps)
-      → advance (wait c k (end done)) limit answers (state_of p log m) ≡ waiting c k (end done) limit (limit - n) n answers (state_of r log' m)
+      → advance (wait c k (end done)) (limit_of b) b.answers.words.now (at_block t (Ok tt) b m)
+      ≡ waiting c k (end done) (limit_of b) (limit_of b - n) n b.answers.words.now (at_block t' (Ok tt) b' m)
 
-pub polling_starts : (c : Cause) (limit : ℕ) (answers : List ℕ) (p : Progress) (log : List ℕ) → Sound p → 0 < limit
-    → Polling c limit answers p log p log 0
-polling_starts c limit answers p log few some =
-    let e : limit - 0 ≡ limit = omega arith in
-    record { sound = few; below = some; state = λ m k. rw e (waits c k (end done) limit answers (state_of p log m)) }
+pub polling_starts : (c : Cause) (t : Tally) (b : RegisterBlock) → t.polls ≤ b.entries → Polling c t b t b 0
+polling_starts c t b few =
+    let e : limit_of b - 0 ≡ limit_of b = omega arith in
+    record {
+      sound = few;
+      below = b.limit.ok;
+      lent = lent_same _;
+      state = λ m k. rw e (waits c k (end done) (limit_of b) b.answers.words.now (at_block t (Ok tt) b m));
+    }
 
--- one more poll: a read of `word` from the progress r to the progress s
-module _ {c : Cause} {limit : ℕ} {answers : List ℕ} {p r s : Progress} {log log' log'' : List ℕ} {n word place : ℕ}
-    (on : Polling c limit answers p log r log' n) (at : place ≡ place_of c) (asked : Asks (register place) answers r log' s log'' word) where
-  read : Asks (register (place_of c)) answers r log' s log'' word
-  read = rw at at asked
+-- one more poll, a read of the register at `place`, from the block b' to the block r
+module _ {c : Cause} {t : Tally} {b : RegisterBlock} {t' : Tally} {b' : RegisterBlock} {n : ℕ}
+    (on : Polling c t b t' b' n) where
+  one_more : limit_of b - n ≡ suc (limit_of b - (n + 1))
+  one_more = let h = on.below in omega arith
 
-  one_more : limit - n ≡ suc (limit - (n + 1))
-  one_more = let b = on.below in omega arith
+  module _ {place : ℕ} (at : place ≡ place_of c) {r : RegisterBlock} where
+    read : {a : Result ℕ QspiError} → Queries (register place) b' r a → (m : List ℕ)
+        → at_block t' (stopped a) r m
+        ≡ advance (ask (register (place_of c)) (λ x. end done))
+        (limit_of b) b.answers.words.now (at_block t' (Ok tt) b' m)
+    read q m = rw (← on.lent.answers, ← at) (((q.makes.works t' on.sound).does (limit_of b)).state m)
 
-  pub polling_stops : (s.number ≡ 0 → ⊥) → Waits c limit answers p log s log'' 0
-  polling_stops i =
-      record {
-        sound = read.sound;
-        state = λ m k.
-            on.state m k
-            ∙ rw one_more (poll_stopped c k (end done) limit _ n answers _ _ word (read.state limit m) read.says i)
-            ∙ sym (skipped (k 0) limit answers (state_of s log'' m) i);
-        counts = λ z. absurd (i z);
-        none = λ y. refl;
-      }
-
-  -- the poll counted in the tally t, by a test b of the word
-  module _ {cur : Progress} {t : Tally} {b : Bool} (z : s.number ≡ 0) (is : cur ≡ with_tally t s)
-      (adds : tally_in t ≡ plus (tally_in s.tally) (poll_tally c n b)) (tests : b ≡ ready c word) where
-    counted_state : (m : List ℕ) → state_of cur log'' m ≡ tallied (tally_event (polled c n word)) (state_of s log'' m)
-    unfolding tally_event
-    counted_state m = rw (is, ← tests, ← adds) refl
-
-    counted_sound : Sound cur
-    unfolding plus poll_tally
-    counted_sound = rw is (let e = ap (λ a. a.polls) adds in omega (arith, read.rises z))
-
-    pub polling_ready : {count : ℕ} → b ≡ true → count ≡ count_of c word → Waits c limit answers p log cur log'' count
-    polling_ready e q =
+    pub polling_stops : {e : QspiError} → Queries (register place) b' r (Err e) → Polls c t b t' r (Err e)
+    polling_stops {e} q =
         record {
-          sound = counted_sound;
-          state = λ m k.
-              on.state m k
-              ∙ rw (counted_state m, q, one_more) (poll_ready c k (end done) limit _ n answers _ _ word (read.state limit m) read.says z (sym tests ∙ e));
-          counts = λ _. (word, sym tests ∙ e, q);
-          none = λ y. absurd (y (rw is z));
+          lent = lent_then on.lent q.makes.lent;
+          waits = record {
+            sound = (q.makes.works t' on.sound).sound;
+            state = λ m k.
+                on.state m k
+                ∙ rw one_more (poll_stopped c k (end done) (limit_of b) _ n b.answers.words.now _ _ 0 (read q m)
+                (λ z. absurd (error_ne0 e z)) (error_ne0 e))
+                ∙ sym (skipped (k 0) (limit_of b) b.answers.words.now (at_block t' (Err e) r m) (error_ne0 e));
+            counts = λ z. absurd (error_ne0 e z);
+          };
         }
 
-    polling_unready : b ≡ false → (m : List ℕ) (k : ℕ → Steps)
-        → advance (wait c k (end done)) limit answers (state_of p log m)
-        ≡ waiting c k (end done) limit (limit - (n + 1)) (n + 1) answers (state_of cur log'' m)
-    polling_unready e m k =
-        on.state m k
-        ∙ rw (counted_state m, one_more, add-one n)
-        (poll_unready c k (end done) limit _ n answers _ _ word (read.state limit m) read.says z (sym tests ∙ e))
+    -- the poll counted in the tally s, by a test v of the word
+    module _ {word : ℕ} {s : Tally} {v : Bool} (q : Queries (register place) b' r (Ok word))
+        (adds : tally_in s ≡ plus (tally_in t') (poll_tally c n v)) (tests : v ≡ ready c word) where
+      counted_state : (m : List ℕ) → at_block s (Ok tt) r m ≡ tallied (tally_event (polled c n word))
+          (at_block t' (Ok tt) r m)
+      unfolding tally_event
+      counted_state m = rw (← tests, ← adds) refl
 
-    pub polling_again : b ≡ false → n + 1 < limit → Polling c limit answers p log cur log'' (n + 1)
-    polling_again e h = record { sound = counted_sound; below = h; state = polling_unready e }
+      says : word ≡ get_or b.answers.words.now b'.answers.at 0
+      says = rw (← on.lent.answers) q.says
 
-    pub polling_late : b ≡ false → n + 1 ≡ limit → Waits c limit answers p log (with_number 1 cur) log'' 0
-    polling_late e h =
-        let o : limit - (n + 1) ≡ 0 = omega arith in
-        record {
-          sound = counted_sound;
-          state = λ m k.
-              polling_unready e m k ∙ rw o (poll_late c k limit (n + 1) answers (state_of cur log'' m) (rw is z))
-              ∙ sym (skipped (k 0) limit answers (state_of (with_number 1 cur) log'' m) (λ y. omega (arith, y)));
-          counts = λ y. absurd (omega (arith, y));
-          none = λ y. refl;
-        }
+      pub counted_sound : s.polls ≤ r.entries
+      unfolding plus poll_tally
+      counted_sound = let e = ap (λ a. a.polls) adds in omega (arith, q.rises refl, on.sound)
+
+      pub polling_ready : {count : ℕ} → v ≡ true → count ≡ count_of c word → Polls c t b s r (Ok count)
+      polling_ready {count} e h =
+          record {
+            lent = lent_then on.lent q.makes.lent;
+            waits = record {
+              sound = counted_sound;
+              state = λ m k.
+                  on.state m k
+                  ∙ rw (counted_state m, h, one_more)
+                  (poll_ready c k (end done) (limit_of b) _ n b.answers.words.now _ _ word (read q m) (λ z. says) refl
+                  (sym tests ∙ e));
+              counts = λ z. (word, sym tests ∙ e, h);
+            };
+          }
+
+      polling_unready : v ≡ false → (m : List ℕ) (k : ℕ → Steps)
+          → advance (wait c k (end done)) (limit_of b) b.answers.words.now (at_block t (Ok tt) b m)
+          ≡ waiting c k (end done) (limit_of b) (limit_of b - (n + 1))
+          (n + 1) b.answers.words.now (at_block s (Ok tt) r m)
+      polling_unready e m k =
+          on.state m k
+          ∙ rw (counted_state m, one_more, add-one n)
+          (poll_unready c k (end done) (limit_of b) _ n b.answers.words.now _ _ word (read q m) (λ z. says) refl
+          (sym tests ∙ e))
+
+      pub polling_again : v ≡ false → n + 1 < limit_of b → Polling c t b s r (n + 1)
+      polling_again e h =
+          record {
+            sound = counted_sound;
+            below = h;
+            lent = lent_then on.lent q.makes.lent;
+            state = polling_unready e;
+          }
+
+      pub polling_late : v ≡ false → n + 1 ≡ limit_of b → Polls c t b s r (Err Timeout)
+      polling_late e h =
+          let o : limit_of b - (n + 1) ≡ 0 = omega arith in
+          record {
+            lent = lent_then on.lent q.makes.lent;
+            waits = record {
+              sound = counted_sound;
+              state = λ m k.
+                  polling_unready e m k ∙ rw o
+                  (poll_late c k (limit_of b) (n + 1) b.answers.words.now (at_block s (Ok tt) r m) refl)
+                  ∙ sym (skipped (k 0) (limit_of b) b.answers.words.now (at_block s (Err Timeout) r m)
+                  (error_ne0 Timeout));
+              counts = λ z. absurd (error_ne0 Timeout z);
+            };
+          }

@@ -17,7 +17,11 @@ use Rattle.access.specs.Of.{state_of}
 use Rattle.access.specs.Does.{Runs}
 use Rattle.access.proofs.Sequence.{part_length, runs_part}
 use Rattle.qspi.specs.Phases.{rx_phase}
-use Rattle.qspi.proofs.Windows.{change_inside, wait_inside, tx_inside, rx_inside}
+use Rattle.std.specs.Prelude.{Result}
+use Rattle.config.specs.declared.error.QspiError.{QspiError}
+use Rattle.access.specs.declared.block.RegisterBlock.{RegisterBlock}
+use Rattle.access.specs.Goes.{GoesOn}
+use Rattle.qspi.proofs.Windows.{rx_window, change_inside, wait_inside, tx_inside, rx_inside}
 use Rattle.config.specs.declared.config.WorkMode.{WorkMode}
 use Rattle.config.specs.declared.config.WorkMode.TheVariants.{Standard, ThreeWire, Dual, DualIO, Quad, QuadIO, Qpi}
 use Rattle.mode.specs.Mode.{lines, qpi_mode, mode_changes, work_mode_steps}
@@ -79,3 +83,26 @@ module _ (at len : ℕ) {limit : ℕ} {answers : List ℕ} {p r : Progress} {log
       → Runs (quad_steps bytes (rx_phase 0 (length (take len (drop at m))))) limit answers p log (take len (drop at m)) r log' part'
       → Runs (quad_steps bytes (rx_phase at len)) limit answers p log m r log' (take at m ++ (part' ++ drop len (drop at m)))
   quad_window bytes d = runs_part (quad_steps bytes (rx_phase at len)) (quad_steps bytes (rx_phase 0 len)) at len h (quad_inside at len bytes) (rw (part_length at len m h) at d)
+
+-- The same for what a register block has done.
+module _ {b r : RegisterBlock} {m m' : List ℕ} {e : Result (Unit {0}) QspiError} where
+  pub looks_goes : (k : List ℕ → Steps) → GoesOn (k m) b m r m' e → GoesOn (look k) b m r m' e
+  looks_goes k d = record { lent = d.lent; runs = looks_runs k d.runs }
+
+  pub goes_looked : (k : List ℕ → Steps) → GoesOn (look k) b m r m' e → GoesOn (k m) b m r m' e
+  goes_looked k d = record { lent = d.lent; runs = looked k d.runs }
+
+module _ (at len : ℕ) {b r : RegisterBlock} {m part' : List ℕ} {e : Result (Unit {0}) QspiError}
+    (h : at + len ≤ length m) where
+  pub rx_goes : GoesOn (rx_phase 0 (length (take len (drop at m)))) b (take len (drop at m)) r part' e
+      → GoesOn (rx_phase at len) b m r (take at m ++ (part' ++ drop len (drop at m))) e
+  rx_goes d = record { lent = d.lent; runs = rx_window at len h d.runs }
+
+  pub in_place_goes : GoesOn (in_place_steps 0 (length (take len (drop at m)))) b (take len (drop at m)) r part' e
+      → GoesOn (in_place_steps at len) b m r (take at m ++ (part' ++ drop len (drop at m))) e
+  in_place_goes d = record { lent = d.lent; runs = in_place_window at len h d.runs }
+
+  pub quad_goes : (bytes : List ℕ) → GoesOn (quad_steps bytes (rx_phase 0 (length (take len (drop at m))))) b
+      (take len (drop at m)) r part' e
+      → GoesOn (quad_steps bytes (rx_phase at len)) b m r (take at m ++ (part' ++ drop len (drop at m))) e
+  quad_goes bytes d = record { lent = d.lent; runs = quad_window at len h bytes d.runs }

@@ -4,12 +4,14 @@
 ghost use Rattle.std.specs.Prelude.{◌≡◌, ◌+◌, ◌^◌, ◌≤◌, ◌<◌, length};
 ghost use Rattle.qspi.specs.Phases.{rx_phase};
 ghost use Rattle.transfer.specs.Transfer.{in_place_steps};
-ghost use Rattle.access.specs.Does.{Sound, Runs};
+ghost use Rattle.access.specs.Goes.{GoesOn};
 ghost use Rattle.windows.specs.Windows.{write_window, transfer_windows, read_quad_windows, write_quad_windows};
 ghost use Rattle.windows.specs.Windows.{window as Windows·window};
 
-use access::Progress;
+use access::RegisterBlock;
+use config::QspiError;
 use qspi::phase;
+use quad::QuadFrame;
 
 // A start and a length in the memory.
 #[derive(Clone, Copy)]
@@ -23,135 +25,81 @@ pub fn window(memory: &[u8], w: Span) -> &[u8]
     requires { w.start + w.len ≤ length memory.now }
     ensures { result.now ≡ Windows·window w.start w.len memory.now }
 {
-    let start = w.start;
-    let end = start + w.len;
-    &memory[start..end]
+    &memory[w.start..w.start + w.len]
 }
 
 // Writes a window.
-pub fn write(
-    limit: u32,
-    progress: Progress,
-    log: &mut [u32],
-    answers: &[u32],
-    memory: &[u8],
-    w: Span,
-) -> Progress
-    requires sound { Sound progress }
-    requires limit_nonzero { 0 < limit }
-    requires len_in_bounds { (w.start + w.len ≤ length memory.now) × (w.len < 2 ^ 24) }
-    ensures { Runs (write_window w.start w.len) limit answers.now progress log.old memory.now result log.new memory.now }
+pub fn write(block: &mut RegisterBlock<'_>, memory: &[u8], w: Span) -> Result<(), QspiError>
+    requires { (w.start + w.len ≤ length memory.now) × (w.len < 2 ^ 24) }
+    ensures { GoesOn (write_window w.start w.len) block.old memory.now block.new memory.now result }
 {
-    phase::tx_phase(limit, progress, log, answers, window(memory, w), true)
+    phase::tx_phase(block, window(memory, w), true)
 }
 
 // Reads into a window.
-pub fn read(
-    limit: u32,
-    progress: Progress,
-    log: &mut [u32],
-    answers: &[u32],
-    memory: &mut [u8],
-    w: Span,
-) -> Progress
-    requires sound { Sound progress }
-    requires limit_nonzero { 0 < limit }
-    requires len_in_bounds { (w.start + w.len ≤ length memory.old) × (w.len < 2 ^ 24) }
-    ensures { Runs (rx_phase w.start w.len) limit answers.now progress log.old memory.old result log.new memory.new }
+pub fn read(block: &mut RegisterBlock<'_>, memory: &mut [u8], w: Span) -> Result<(), QspiError>
+    requires { (w.start + w.len ≤ length memory.old) × (w.len < 2 ^ 24) }
+    ensures { GoesOn (rx_phase w.start w.len) block.old memory.old block.new memory.new result }
 {
-    let start = w.start;
-    let end = start + w.len;
-    phase::rx_phase(limit, progress, log, answers, &mut memory[start..end])
+    phase::rx_phase(block, &mut memory[w.start..w.start + w.len])
 }
 
 // Writes the second window fully, then reads into the first.
 pub fn transfer(
-    limit: u32,
-    progress: Progress,
-    log: &mut [u32],
-    answers: &[u32],
+    block: &mut RegisterBlock<'_>,
     memory: &mut [u8],
     to: Span,
     from: Span,
-) -> Progress
-    requires sound { Sound progress }
-    requires limit_nonzero { 0 < limit }
-    requires len_in_bounds { (to.start + to.len ≤ length memory.old) × (to.len < 2 ^ 24) }
-    requires len_in_bounds_2 { (from.start + from.len ≤ length memory.old) × (from.len < 2 ^ 24) }
-    ensures { Runs (transfer_windows to.start to.len from.start from.len) limit answers.now progress log.old memory.old result log.new memory.new }
+) -> Result<(), QspiError>
+    requires to_in_bounds { (to.start + to.len ≤ length memory.old) × (to.len < 2 ^ 24) }
+    requires from_in_bounds { (from.start + from.len ≤ length memory.old) × (from.len < 2 ^ 24) }
+    ensures { GoesOn (transfer_windows to.start to.len from.start from.len) block.old memory.old block.new memory.new result }
 {
-    let written = write(limit, progress, log, answers, memory, from);
-    read(limit, written, log, answers, memory, to)
+    write(block, memory, from)?;
+    read(block, memory, to)
 }
 
 // Writes and reads back a window, by parts.
 pub fn transfer_in_place(
-    limit: u32,
-    progress: Progress,
-    log: &mut [u32],
-    answers: &[u32],
+    block: &mut RegisterBlock<'_>,
     memory: &mut [u8],
     w: Span,
-) -> Progress
-    requires sound { Sound progress }
-    requires limit_nonzero { 0 < limit }
-    requires len_in_bounds { w.start + w.len ≤ length memory.old }
-    ensures { Runs (in_place_steps w.start w.len) limit answers.now progress log.old memory.old result log.new memory.new }
+) -> Result<(), QspiError>
+    requires { w.start + w.len ≤ length memory.old }
+    ensures { GoesOn (in_place_steps w.start w.len) block.old memory.old block.new memory.new result }
 {
-    let start = w.start;
-    let end = start + w.len;
-    transfer::transfer_in_place(limit, progress, log, answers, &mut memory[start..end])
+    transfer::transfer_in_place(block, &mut memory[w.start..w.start + w.len])
 }
 
 // Reads on four lines into a window, after a frame made of another.
 pub fn read_quad(
-    limit: u32,
-    progress: Progress,
-    log: &mut [u32],
-    answers: &[u32],
+    block: &mut RegisterBlock<'_>,
     memory: &mut [u8],
     hz: u32,
     command: Span,
     tclqv_ns: u32,
     margin: u8,
     to: Span,
-) -> Progress
-    requires sound { Sound progress }
-    requires limit_nonzero { 0 < limit }
-    requires len_in_bounds { command.start + command.len ≤ length memory.old }
-    requires len_in_bounds_2 { (to.start + to.len ≤ length memory.old) × (to.len < 2 ^ 24) }
-    ensures { Runs (read_quad_windows hz command.start command.len tclqv_ns margin to.start to.len) limit answers.now progress log.old memory.old result log.new memory.new }
+) -> Result<(), QspiError>
+    requires command_in_bounds { command.start + command.len ≤ length memory.old }
+    requires to_in_bounds { (to.start + to.len ≤ length memory.old) × (to.len < 2 ^ 24) }
+    ensures { GoesOn (read_quad_windows hz command.start command.len tclqv_ns margin to.start to.len) block.old memory.old block.new memory.new result }
 {
     let dummies = clock::dummy_bytes_for(hz, tclqv_ns, margin);
-    let framed = quad::frame::quad_frame(window(memory, command), dummies);
-    let start = to.start;
-    let end = start + to.len;
-    quad::read_framed(
-        limit,
-        progress,
-        log,
-        answers,
-        framed,
-        &mut memory[start..end],
-    )
+    let frame = QuadFrame::new(window(memory, command), dummies);
+    quad::read_framed(block, frame, &mut memory[to.start..to.start + to.len])
 }
 
 // Writes a window on four lines, after another on one.
 pub fn write_quad(
-    limit: u32,
-    progress: Progress,
-    log: &mut [u32],
-    answers: &[u32],
+    block: &mut RegisterBlock<'_>,
     memory: &[u8],
     command: Span,
     from: Span,
-) -> Progress
-    requires sound { Sound progress }
-    requires limit_nonzero { 0 < limit }
-    requires len_in_bounds { (command.start + command.len ≤ length memory.now) × (command.len < 2 ^ 24) }
-    requires len_in_bounds_2 { (from.start + from.len ≤ length memory.now) × (from.len < 2 ^ 24) }
-    ensures { Runs (write_quad_windows command.start command.len from.start from.len) limit answers.now progress log.old memory.now result log.new memory.now }
+) -> Result<(), QspiError>
+    requires command_in_bounds { (command.start + command.len ≤ length memory.now) × (command.len < 2 ^ 24) }
+    requires from_in_bounds { (from.start + from.len ≤ length memory.now) × (from.len < 2 ^ 24) }
+    ensures { GoesOn (write_quad_windows command.start command.len from.start from.len) block.old memory.now block.new memory.now result }
 {
-    let sent = window(memory, command);
-    quad::write_quad(limit, progress, log, answers, sent, window(memory, from))
+    quad::write_quad(block, window(memory, command), window(memory, from))
 }

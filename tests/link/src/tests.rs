@@ -82,13 +82,24 @@ fn every_function_has_a_comment() {
     }
 }
 
+/// The name of an error's constant in C: `SPI_MODE` of `SpiMode`.
+fn constant(error: &str) -> String {
+    let mut name = String::new();
+    for letter in error.chars() {
+        if letter.is_uppercase() && !name.is_empty() {
+            name.push('_');
+        }
+        name.extend(letter.to_uppercase());
+    }
+    name
+}
+
 #[test]
 fn the_header_has_document_01s_numbers() {
-    let (header, numbers) = (text("bindings/c/qspi.h"), text("crates/config/src/number.rt"));
-    let constants: Vec<(&str, &str)> = numbers
-        .lines()
-        .filter_map(|l| l.strip_prefix("pub const ")?.strip_suffix(';')?.split_once(": u32 = "))
-        .collect();
+    let (header, errors) = (text("bindings/c/qspi.h"), text("crates/config/src/error.rt"));
+    let mut constants = vec![(String::from("DONE"), "0")];
+    let errors = errors.lines().filter_map(|l| l.strip_prefix("    ")?.strip_suffix(',')?.split_once(" = "));
+    constants.extend(errors.map(|(error, number)| (constant(error), number)));
     assert_eq!(constants.len(), 14);
     for (name, number) in constants {
         let line = header.lines().find_map(|l| l.trim().strip_prefix(&format!("QSPI_{name} = ")));

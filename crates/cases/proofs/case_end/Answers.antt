@@ -1,19 +1,17 @@
-use mathlib.Core.Path.{refl, sym, ◌∙◌}
-use borrow.Author.Rules.{rules}
-use Rattle.cases.proofs.Laws.{end_here, end_next, end_none}
+use Rattle.std.proofs.Common.{◌≡◌, true, false, rules, tests}
+use Rattle.std.proofs.lemmas.Iterator.{first_from_Range}
+use Rattle.cases.specs.Ends.{ends_at}
+use Rattle.cases.proofs.Laws.{end_found, end_bounds}
 use Rattle.cases.proofs.case_end.Goals as goal
 
-pub loop-i-init : goal.loop-i-init
-loop-i-init c = (search rules, search rules, refl)
+pub returns-clause-value : goal.returns-clause-value
+returns-clause-value c = let text = c.args.text.now in
+    end_found text c.args.from c.find.result
+    (first_from_Range _ _ _ _ (λ i. ends_at text i ≡ true) (λ i. ends_at text i ≡ false)
+    c.find.ensures.ran (λ x q k. search (rules, tests)) (λ x q k. search (rules, tests)))
 
-pub returns-then-ends_at : goal.returns-then-ends_at
-returns-then-ends_at c = let l = c.loop-i in
-    record { value = sym (end_here _ _ c.loop-i-test.true (sym c.ends_at.ensures ∙ c.if-ends_at.true)) ∙ l.invariant.2; lower_bound = search rules; upper_bound = search rules }
-
-pub loop-i-preserved : goal.loop-i-preserved
-loop-i-preserved c = let l = c.loop-i in
-    (search rules, search rules, sym (end_next _ _ c.loop-i-test.true (sym c.ends_at.ensures ∙ c.if-ends_at.false)) ∙ l.invariant.2)
-
-pub returns : goal.returns
-returns c = let l = c.loop-i in
-    record { value = sym (end_none _ _ c.loop-i-test.false) ∙ l.invariant.2; lower_bound = search rules; upper_bound = search rules }
+pub returns-clause-bounds : goal.returns-clause-bounds
+returns-clause-bounds c = let text = c.args.text.now in
+    end_bounds text c.args.from c.find.result
+    (first_from_Range _ _ _ _ (λ i. ends_at text i ≡ true) (λ i. ends_at text i ≡ false)
+    c.find.ensures.ran (λ x q k. search (rules, tests)) (λ x q k. search (rules, tests)))

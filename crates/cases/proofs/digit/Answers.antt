@@ -1,23 +1,24 @@
-use borrow.Author.Tests.{lt-ltb, le-ltb}
+use Rattle.std.proofs.Common.{arith}
+use Rattle.std.proofs.lemmas.Bool.Decides.{nat_tests}
 use Rattle.cases.specs.Number.{digit_of}
 use Rattle.cases.proofs.digit.Goals as goal
 
-pub returns-then-b-lt48 : goal.returns-then-b-lt48
+pub returns-in-48-to-57 : goal.returns-in-48-to-57
 unfolding digit_of
-returns-then-b-lt48 c = simp (lt-ltb _ _ c.if-b-lt48.true)
+returns-in-48-to-57 c = grind (arith, nat_tests)
 
-pub returns-then-b-lt58 : goal.returns-then-b-lt58
+pub returns-in-97-to-102 : goal.returns-in-97-to-102
 unfolding digit_of
-returns-then-b-lt58 c = simp (le-ltb _ _ c.if-b-lt48.false, lt-ltb _ _ c.if-b-lt58.true)
+returns-in-97-to-102 c = grind (arith, nat_tests)
 
-pub returns-then-b-lt97 : goal.returns-then-b-lt97
+pub returns-in_default : goal.returns-in_default
 unfolding digit_of
-returns-then-b-lt97 c = simp (le-ltb _ _ c.if-b-lt48.false, le-ltb _ _ c.if-b-lt58.false, lt-ltb _ _ c.if-b-lt97.true)
+returns-in_default c = grind (arith, nat_tests)
 
-pub returns-then-b-lt103 : goal.returns-then-b-lt103
+pub returns-in_default-2 : goal.returns-in_default-2
 unfolding digit_of
-returns-then-b-lt103 c = simp (le-ltb _ _ c.if-b-lt48.false, le-ltb _ _ c.if-b-lt58.false, le-ltb _ _ c.if-b-lt97.false, lt-ltb _ _ c.if-b-lt103.true)
+returns-in_default-2 c = grind (arith, nat_tests)
 
-pub returns-else-b-lt103 : goal.returns-else-b-lt103
+pub returns-in_default-3 : goal.returns-in_default-3
 unfolding digit_of
-returns-else-b-lt103 c = simp (le-ltb _ _ c.if-b-lt48.false, le-ltb _ _ c.if-b-lt58.false, le-ltb _ _ c.if-b-lt97.false, le-ltb _ _ c.if-b-lt103.false)
+returns-in_default-3 c = grind (arith, nat_tests)

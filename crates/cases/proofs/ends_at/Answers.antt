@@ -1,20 +1,12 @@
-use mathlib.Core.Path.{sym}
-use borrow.Author.Tests.{lt-ltb, le-ltb, eq-eqb, ne_eqb}
-use Rattle.cases.proofs.Laws.{ends_third}
+use Rattle.std.proofs.Common.{◌∙◌, ◌≤◌, ◌-◌, ap, length, drop, List, ℕ, [], ◌∷◌, nat_eq, take_all, length-drop, arith}
+use Rattle.std.specs.List.{starts_with}
 use Rattle.cases.specs.Ends.{ends_at}
 use Rattle.cases.proofs.ends_at.Goals as goal
 
-pub returns-then-text-i-lt3 : goal.returns-then-text-i-lt3
-unfolding ends_at
-returns-then-text-i-lt3 c = simp (lt-ltb _ _ c.if-text-i-lt3.true)
-
-pub returns-then-text-i-ne10 : goal.returns-then-text-i-ne10
-unfolding ends_at
-returns-then-text-i-ne10 c = simp (le-ltb _ _ c.if-text-i-lt3.false, ne_eqb _ _ c.if-text-i-ne10.true)
-
-pub returns-then-text-i-ne46 : goal.returns-then-text-i-ne46
-unfolding ends_at
-returns-then-text-i-ne46 c = simp (le-ltb _ _ c.if-text-i-lt3.false, eq-eqb _ _ c.if-text-i-ne10.false, ne_eqb _ _ c.if-text-i-ne46.true)
-
 pub returns : goal.returns
-returns c = sym (ends_third _ _ c.if-text-i-lt3.false c.if-text-i-ne10.false c.if-text-i-ne46.false)
+unfolding ends_at
+returns c =
+    let text = c.args.text.now in
+    let long : length (drop c.args.i text) ≤ length text - c.args.i = omega (arith, length-drop c.args.i text) in
+    c.starts_with.ensures.value
+    ∙ ap (λ (xs : List ℕ). starts_with nat_eq xs (10 ∷ 46 ∷ 10 ∷ [])) (take_all _ (drop c.args.i text) long)

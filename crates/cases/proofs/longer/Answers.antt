@@ -1,23 +1,19 @@
-use native.Mathlib.Nat.{mul-le-mul}
-use native.Mathlib.Omega.{arith}
-use borrow.Author.Tests.{le-leb}
-use borrow.Author.Rules.{rules}
-use Rattle.cases.proofs.Laws.{step_more}
-use Rattle.cases.specs.Number.{step}
+use Rattle.std.proofs.Common.{sym, ◌∙◌, arith}
+use Rattle.cases.proofs.Laws.{step_none, step_above, step_over, step_sum}
 use Rattle.cases.proofs.longer.Goals as goal
 
+pub returns-in_err-d : goal.returns-in_err-d
+returns-in_err-d c = c.from_residual.ensures ∙ sym (step_none _ _ _ (sym c.digit.ensures ∙ c.in_err-d.was))
+
 pub returns-then-d-base : goal.returns-then-d-base
-unfolding step
-returns-then-d-base c = record { value = rw (← c.digit-d.ensures) (simp (le-leb _ _ c.if-d-base.true)); upper_bound = search rules }
+returns-then-d-base c = sym (step_above _ _ _ _ (sym c.digit.ensures ∙ c.in_ok-d.was) c.if-d-base.true)
 
-pub overflow_mul-next : goal.overflow_mul-next
-overflow_mul-next c = record { fits = omega (arith, mul-le-mul c.requires.value_bound c.requires.base_bound) }
+pub returns-in_err-checked_mul : goal.returns-in_err-checked_mul
+returns-in_err-checked_mul c = c.from_residual-in_err-checked_mul.ensures
+    ∙ sym (step_over _ _ _ _ (sym c.digit.ensures ∙ c.in_ok-d.was) c.if-d-base.false
+    (omega (arith, c.in_err-checked_mul.ensures)))
 
-pub overflow_add-next : goal.overflow_add-next
-overflow_add-next c = record { fits = omega (arith, mul-le-mul c.requires.value_bound c.requires.base_bound) }
-
-pub returns-then-next-gt-NO_NUMBER : goal.returns-then-next-gt-NO_NUMBER
-returns-then-next-gt-NO_NUMBER c = record { value = step_more _ _ _ _ _ c.digit-d.ensures c.if-d-base.false (omega arith); upper_bound = search rules }
-
-pub returns-else-next-gt-NO_NUMBER : goal.returns-else-next-gt-NO_NUMBER
-returns-else-next-gt-NO_NUMBER c = record { value = step_more _ _ _ _ _ c.digit-d.ensures c.if-d-base.false (omega arith); upper_bound = search rules }
+pub returns : goal.returns
+returns c =
+    step_sum _ _ _ _ (sym c.digit.ensures ∙ c.in_ok-d.was) c.if-d-base.false
+    _ c.in_ok-checked_mul.ensures.1 _ c.checked_add.ensures

@@ -1,20 +1,16 @@
-use mathlib.Core.Path.{sym, ◌∙◌}
-use native.Mathlib.Omega.{arith}
-use Rattle.cases.proofs.Laws.{hex_long, number_hex, number_none, number_decimal}
+use Rattle.std.proofs.Common.{◌∙◌, arith}
+use Rattle.std.proofs.lemmas.Bool.Decides.{nat_tests}
+use Rattle.cases.specs.Number.{number_of, is_hex}
+use Rattle.cases.proofs.Laws.{number_hex}
 use Rattle.cases.proofs.number.Goals as goal
 
-pub slice_bounds-value-count : goal.slice_bounds-value-count
-slice_bounds-value-count c = omega (arith, hex_long _ (sym c.is_hex.ensures ∙ c.if-is_hex.true))
+pub returns-in-empty : goal.returns-in-empty
+unfolding number_of is_hex
+returns-in-empty c = grind (arith, nat_tests)
 
-pub slice_bounds-value-start : goal.slice_bounds-value-start
-slice_bounds-value-start c = omega (arith, hex_long _ (sym c.is_hex.ensures ∙ c.if-is_hex.true))
+pub returns-in-48 : goal.returns-in-48
+returns-in-48 c = c.value.ensures ∙ number_hex _ c.in-48.len_at_least (omega arith) (omega arith)
 
-pub returns-then-is_hex : goal.returns-then-is_hex
-returns-then-is_hex c = let hex = sym c.is_hex.ensures ∙ c.if-is_hex.true in
-    c.value.ensures ∙ number_hex _ hex
-
-pub returns-then-word-eq0 : goal.returns-then-word-eq0
-returns-then-word-eq0 c = sym (number_none _ (sym c.is_hex.ensures ∙ c.if-is_hex.false) c.if-word-eq0.true)
-
-pub returns : goal.returns
-returns c = c.value-2.ensures ∙ sym (number_decimal _ (sym c.is_hex.ensures ∙ c.if-is_hex.false) c.if-word-eq0.false)
+pub returns-in_default : goal.returns-in_default
+unfolding number_of is_hex
+returns-in_default c = grind (arith, nat_tests)

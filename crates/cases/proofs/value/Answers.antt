@@ -1,15 +1,15 @@
-use mathlib.Core.Path.{refl, sym, ◌∙◌}
-use borrow.Author.Rules.{rules}
-use Rattle.cases.proofs.Laws.{value_next, value_end}
+use Rattle.std.proofs.Common.{sym, ◌∙◌, arith}
+use Rattle.cases.proofs.Laws.{value_stops, value_next, value_end}
 use Rattle.cases.proofs.value.Goals as goal
 
-pub loop-i-init : goal.loop-i-init
-loop-i-init c = (search rules, search rules, refl)
+pub returns-in_err-value : goal.returns-in_err-value
+returns-in_err-value c = c.from_residual.ensures
+    ∙ sym (value_stops _ _ _ _ c.loop-b-test.true (sym c.longer.ensures ∙ c.in_err-value.was)) ∙ c.loop-b.invariant
 
-pub loop-i-preserved : goal.loop-i-preserved
-loop-i-preserved c = let l = c.loop-i in
-    (search rules, c.longer-value.ensures.upper_bound, rw c.longer-value.ensures.value (sym (value_next _ _ _ _ c.loop-i-test.true) ∙ l.invariant.2))
+pub loop-b-preserved : goal.loop-b-preserved
+loop-b-preserved c =
+    sym (value_next _ _ _ _ _ c.loop-b-test.true (sym c.longer.ensures ∙ c.in_ok-value.was)) ∙ c.loop-b.invariant
 
 pub returns : goal.returns
-returns c = let l = c.loop-i in
-    sym (value_end _ _ _ _ c.loop-i-test.false) ∙ l.invariant.2
+returns c =
+    sym (value_end c.args.base c.loop-b.value c.args.digits.now c.loop-b.b-index (omega arith)) ∙ c.loop-b.invariant

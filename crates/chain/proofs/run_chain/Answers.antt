@@ -1,38 +1,58 @@
+use Rattle.std.proofs.Common.{rules, sym, ◌∙◌}
 use native.Mathlib.Omega.{arith}
-use Rattle.chain.proofs.Running.{running_none, running_starts, runs_on, running_stops, running_ends, running_less, running_on}
-use borrow.Author.Rules.{rules}
+use Rattle.std.proofs.lemmas.Result.{err_from_is_err_and}
+use Rattle.std.proofs.lemmas.Option.{same_Some}
+use Rattle.chain.proofs.Running.{none_on, starts_on, made_on, stops_on, ends_on, less_on, goes_further}
 use Rattle.chain.proofs.run_chain.Goals as goal
 
 pub returns-then-words-eq0 : goal.returns-then-words-eq0
-returns-then-words-eq0 c = let a = c.args in
-    running_none a.hz a.qpi a.highest a.words.now (search rules) (search rules) (search rules)
+returns-then-words-eq0 c =
+    let r = c.args.request in
+    none_on r.rate r.qpi r.highest r.words.now _ _ c.requires c.if-words-eq0.true
 
-pub loop-r-init : goal.loop-r-init
-loop-r-init c = let a = c.args in
-    (search rules, running_starts a.hz a.qpi a.highest a.words.now (search rules) (omega arith) (search rules))
+pub loop-next-init : goal.loop-next-init
+loop-next-init c =
+    let r = c.args.request in
+    starts_on r.rate r.qpi r.highest r.words.now _ _ c.requires (omega (arith, c.if-words-eq0.false))
 
-pub returns-then-number-ne0 : goal.returns-then-number-ne0
-returns-then-number-ne0 c = let a = c.args in
-    let on = c.loop-r.invariant.1 in
-    running_stops a.hz a.qpi a.highest a.words.now on c.record_at-r.ensures c.run_record-current.ensures c.if-number-ne0.true
+pub unwrap-record-requires : goal.unwrap-record-requires
+unwrap-record-requires c =
+    let r = c.args.request in
+    let s = made_on r.rate r.qpi r.highest r.words.now c.loop-next.invariant c.record_at-r.ensures in
+    rw (c.of.ensures, s.1) (search rules)
+
+pub run_record-requires : goal.run_record-requires
+run_record-requires c =
+    let r = c.args.request in
+    let s = made_on r.rate r.qpi r.highest r.words.now c.loop-next.invariant c.record_at-r.ensures in
+    rw (same_Some _ _ (sym c.unwrap-record.ensures ∙ c.of.ensures ∙ s.1)) s.2
+
+pub returns-in_err-run_record : goal.returns-in_err-run_record
+returns-in_err-run_record c =
+    let p = err_from_is_err_and c.from_residual.result c.from_residual.ensures.1 in
+    let r = c.args.request in
+    rw (p.1, p.2)
+    (stops_on r.rate r.qpi r.highest r.words.now c.loop-next.invariant c.record_at-r.ensures
+    (sym c.of.ensures ∙ c.unwrap-record.ensures)
+    c.in_err-run_record.ensures)
 
 pub returns-then-next-eq0 : goal.returns-then-next-eq0
-returns-then-next-eq0 c = let a = c.args in
-    let on = c.loop-r.invariant.1 in
-    running_ends a.hz a.qpi a.highest a.words.now on c.record_at-r.ensures c.run_record-current.ensures c.if-next-eq0.true
+returns-then-next-eq0 c =
+    let r = c.args.request in
+    ends_on r.rate r.qpi r.highest r.words.now c.loop-next.invariant c.record_at-r.ensures
+    (sym c.of.ensures ∙ c.unwrap-record.ensures)
+    c.in_ok-run_record.ensures c.if-next-eq0.true
 
-pub loop-r-smaller : goal.loop-r-smaller
-loop-r-smaller c = let a = c.args in
-    let on = c.loop-r.invariant.1 in
-    running_less a.hz a.qpi a.highest a.words.now on c.record_at-r.ensures c.run_record-current.ensures c.if-next-eq0.false
+pub loop-next-smaller : goal.loop-next-smaller
+loop-next-smaller c =
+    let r = c.args.request in
+    less_on r.rate r.qpi r.highest r.words.now c.loop-next.invariant c.record_at-r.ensures
+    (sym c.of.ensures ∙ c.unwrap-record.ensures)
+    c.in_ok-run_record.ensures c.if-next-eq0.false
 
-pub loop-r-preserved : goal.loop-r-preserved
-loop-r-preserved c = let a = c.args in
-    let on = c.loop-r.invariant.1 in
-    (search rules, running_on a.hz a.qpi a.highest a.words.now on c.record_at-r.ensures c.run_record-current.ensures c.if-next-eq0.false c.run_record-current.auto.memory)
-
-pub run_record-current-requires-clause-r_value : goal.run_record-current-requires-clause-r_value
-run_record-current-requires-clause-r_value c =
-    let a = c.args in
-    let on = c.loop-r.invariant.1 in
-    runs_on a.hz a.qpi a.highest a.words.now on c.record_at-r.ensures
+pub loop-next-preserved : goal.loop-next-preserved
+loop-next-preserved c =
+    let r = c.args.request in
+    goes_further r.rate r.qpi r.highest r.words.now c.loop-next.invariant c.record_at-r.ensures
+    (sym c.of.ensures ∙ c.unwrap-record.ensures)
+    c.in_ok-run_record.ensures c.if-next-eq0.false c.run_record.auto.memory

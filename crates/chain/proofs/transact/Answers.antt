@@ -1,14 +1,13 @@
-use Rattle.chain.proofs.Entry.{accepted, refused_transacts, runs_transacts}
+use mathlib.Core.Path.{refl}
+use Rattle.std.proofs.Common.{rules}
+use Rattle.chain.proofs.Entry.{accepted, refused_transacts, goes_transacts}
 use Rattle.chain.proofs.transact.Goals as goal
 
-pub returns-then-refused-ne0 : goal.returns-then-refused-ne0
-returns-then-refused-ne0 c = refused_transacts _ _ _ _ c.refused-refused.ensures c.if-refused-ne0.true c.new.ensures c.ended.ensures
+pub returns-in-Err : goal.returns-in-Err
+returns-in-Err c = rw c.refused-in-Err.ensures (refused_transacts _ _ c.in-Err.ensures)
+
+pub run_chain-ended-requires : goal.run_chain-ended-requires
+run_chain-ended-requires c = (accepted _ _ _ c.in-Ok.ensures.is refl).1
 
 pub returns : goal.returns
-returns c = runs_transacts _ _ _ _ c.refused-refused.ensures c.if-refused-ne0.false c.new-2.ensures c.run_chain.ensures
-
-pub run_chain-requires-clause-limit_nonzero : goal.run_chain-requires-clause-limit_nonzero
-run_chain-requires-clause-limit_nonzero c = (accepted _ _ _ c.refused-refused.ensures c.if-refused-ne0.false).0
-
-pub run_chain-requires-clause-words_value : goal.run_chain-requires-clause-words_value
-run_chain-requires-clause-words_value c = (accepted _ _ _ c.refused-refused.ensures c.if-refused-ne0.false).1
+returns c = goes_transacts c.in-Ok.ensures c.new-block.ensures c.run_chain-ended.ensures c.progress.ensures (search rules)

@@ -5,4 +5,4 @@ pub returns-in-Some : goal.returns-in-Some
 returns-in-Some c = found_known c.in-Some.is c.open.ensures
 
 pub returns-in-None : goal.returns-in-None
-returns-in-None c = found_none c.in-None.is c.new.ensures (rw c.number.ensures at c.ended.ensures)
+returns-in-None c = found_none c.in-None.is c.refused.ensures

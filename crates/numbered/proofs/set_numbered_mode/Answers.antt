@@ -7,5 +7,4 @@ returns-in-Some c = called_mode (sym c.from_number.ensures ∙ c.in-Some.is) c.s
 
 pub returns-in-None : goal.returns-in-None
 returns-in-None c =
-    called_none (sym c.from_number.ensures ∙ c.in-None.is) c.new.ensures
-    (c.number.ensures ∙ c.no_mode.ensures) c.ended.ensures
+    called_none (sym c.from_number.ensures ∙ c.in-None.is) c.no_mode.ensures c.refused.ensures

@@ -1,10 +1,12 @@
-use Rattle.access.proofs.Sequence.{does_runs}
-use Rattle.quad.proofs.Quad.{quad_stops, quad_runs}
+use Rattle.std.proofs.lemmas.Result.{err_from_is_err_and}
+use Rattle.access.proofs.Goes.{goes_on}
+use Rattle.quad.proofs.Quad.{quad_fails, quad_goes_on}
 use Rattle.quad.proofs.read_framed.Goals as goal
 
-pub returns-then-begun-ne0 : goal.returns-then-begun-ne0
-returns-then-begun-ne0 c = does_runs (quad_stops _ _ c.quad_read_start-begun.ensures c.if-begun-ne0.true) _
+pub returns-in_err-quad_start : goal.returns-in_err-quad_start
+returns-in_err-quad_start c =
+    let p = err_from_is_err_and c.from_residual.result c.from_residual.ensures.1 in
+    rw (p.1, p.2) (goes_on (quad_fails _ _ c.in_err-quad_start.ensures) _)
 
 pub returns : goal.returns
-returns c = quad_runs _ _ c.quad_read_start-begun.ensures c.requires.limit_nonzero c.if-begun-ne0.false
-    c.rx_phase-read.ensures c.quad_end.ensures
+returns c = quad_goes_on _ _ c.in_ok-quad_start.ensures c.rx_phase-ended.ensures c.quad_end.ensures

@@ -1,13 +1,22 @@
-use Prim.Native.Nat.{ℕ, ◌/◌, ◌≤◌, ◌<◌}
-use mathlib.Core.Path.{◌≡◌, sym, ap, ◌∙◌}
-use lib.ListN.{length}
-use native.Mathlib.Omega.{arith}
-use borrow.Author.Rules.{rules}
-use borrow.Author.Tests.{ne_eqb}
-use Rattle.records.specs.declared.Verdict.{Verdict}
-use Rattle.records.specs.Check.{record_at, next_of, record_fault, checked, verdict}
-use Rattle.records.proofs.WalkLaws.{whole_empty, whole_from, fault_at, next_at, from, from_fault, from_last, from_on, passed}
+use Rattle.std.proofs.Common.{rules, ◌≡◌, ℕ, true, Result, Ok, Err, is_ok, MatchResult, sym, ap, refl, ◌∙◌, arith}
+use Rattle.std.proofs.lemmas.Bool.{ne_eqb}
+use Rattle.std.proofs.lemmas.Result.{err_from_is_err_and, MatchResult-weaker}
+use Rattle.config.specs.declared.error.QspiError.{QspiError}
+use Rattle.records.specs.declared.Fault.{Fault}
+use Rattle.records.specs.Check.{fault, checked, verdict}
+use Rattle.records.proofs.WalkLaws.{whole_empty, whole_from, turn_stops, turn_ends, turn_goes_on}
 use Rattle.records.proofs.check.Goals as goal
+
+fine : (r : Result (Unit {0}) QspiError) → true ≡ is_ok r → r ≡ Ok tt
+fine (Ok done) e = refl
+fine (Err e) h = cc
+
+-- an error that was given its record
+faulted : (r : Result (Unit {0}) QspiError) (d : Fault) (own : ℕ)
+    → MatchResult r (λ x. ◌≡◌ {A = Result (Unit {0}) Fault} (Err d) (Ok x)) (λ e. d ≡ fault e own)
+    → (e : QspiError) × (r ≡ Err e) × (d ≡ fault e own)
+faulted (Ok done) d own h = cc
+faulted (Err e) d own h = (e, refl, h)
 
 pub returns-then-words-ne0 : goal.returns-then-words-ne0
 unfolding checked
@@ -16,44 +25,39 @@ returns-then-words-ne0 c = simp (ne_eqb _ _ c.if-words-ne0.true)
 pub returns-then-count-eq0 : goal.returns-then-count-eq0
 returns-then-count-eq0 c = ap verdict (sym (whole_empty _ _ _ c.if-words-ne0.false c.if-count-eq0.true))
 
-pub loop-r-init : goal.loop-r-init
-loop-r-init c = (search rules, omega arith, ap verdict (sym (whole_from _ _ _ c.if-words-ne0.false)))
+pub loop-next-init : goal.loop-next-init
+loop-next-init c =
+    record { one = search rules; most = omega arith; rest = ap verdict (sym (whole_from _ _ _ c.if-words-ne0.false)) }
 
--- where the chain goes on
-onward_is : (c : goal.Else-next-eq0)
-    → let a = c.args in
-    let own = c.loop-r.own in
-    let next = next_of c.record_at-r.result in
-    (own < next)
-    × (next ≤ length a.words.now / 8)
-    × (verdict (from a.highest a.memory a.words.now next) ≡ verdict (from a.highest a.memory a.words.now own))
-onward_is c =
-    let a = c.args in
-    let l = c.loop-r in
-    let e : next_at a.highest a.memory a.words.now l.own ≡ next_of c.record_at-r.result = ap next_of (sym c.record_at-r.ensures) in
-    let number : c.record_fault-number.result ≡ fault_at a.highest a.memory a.words.now l.own = c.record_fault-number.ensures ∙ ap (record_fault _ _ _ _) c.record_at-r.ensures in
-    let on = from_on a.highest a.memory a.words.now l.own l.invariant.0 l.invariant.1 (sym number ∙ c.if-number-ne0.false) (λ z. c.if-next-eq0.false (sym e ∙ z)) in
-    rw (← e) (on.0, on.1, sym (ap verdict on.2 ∙ passed (record_at a.words.now l.own) (from a.highest a.memory a.words.now (next_at a.highest a.memory a.words.now l.own))))
-
-pub returns-then-number-ne0 : goal.returns-then-number-ne0
-returns-then-number-ne0 c = let a = c.args in
-    let l = c.loop-r in
-    let e : c.record_fault-number.result ≡ fault_at a.highest a.memory a.words.now l.own = c.record_fault-number.ensures ∙ ap (record_fault _ _ _ _) c.record_at-r.ensures in
-    ap (λ (n : ℕ). Verdict.Fault n l.own) e
-    ∙ sym (ap verdict (from_fault a.highest a.memory a.words.now l.own l.invariant.0 l.invariant.1 (λ z. c.if-number-ne0.true (e ∙ z)))) ∙ l.invariant.2
+pub returns-in_err-map_err : goal.returns-in_err-map_err
+returns-in_err-map_err c =
+    let at = c.loop-next in
+    let p = err_from_is_err_and c.from_residual.result c.from_residual.ensures.1 in
+    let g = faulted c.record_fault.result c.in_err-map_err.field-0.0 at.own
+    (MatchResult-weaker c.record_fault.result c.in_err-map_err.ensures.cases (λ x h. h) (λ e h. search rules)) in
+    let error = g.0 in
+    let f : c.record_fault.result ≡ Err error = g.1 in
+    let read = c.record_at-r.ensures in
+    let stops = turn_stops _ _ _ _ at.invariant.one at.invariant.most _ read error (sym c.record_fault.ensures ∙ f) in
+    rw (p.1, p.2, g.2, ← stops) at.invariant.rest
 
 pub returns-then-next-eq0 : goal.returns-then-next-eq0
-returns-then-next-eq0 c = let a = c.args in
-    let l = c.loop-r in
-    let number : c.record_fault-number.result ≡ fault_at a.highest a.memory a.words.now l.own = c.record_fault-number.ensures ∙ ap (record_fault _ _ _ _) c.record_at-r.ensures in
-    let next : next_at a.highest a.memory a.words.now l.own ≡ next_of c.record_at-r.result = ap next_of (sym c.record_at-r.ensures) in
-    sym (ap verdict (from_last a.highest a.memory a.words.now l.own l.invariant.0 l.invariant.1 (sym number ∙ c.if-number-ne0.false)
-    (next ∙ c.if-next-eq0.true)))
-    ∙ l.invariant.2
+returns-then-next-eq0 c =
+    let at = c.loop-next in
+    let f = sym c.record_fault.ensures ∙ fine _ c.in_ok-map_err.ensures.variant in
+    let ends = turn_ends _ _ _ _ at.invariant.one at.invariant.most _ c.record_at-r.ensures f c.if-next-eq0.true in
+    sym ends ∙ at.invariant.rest
 
-pub loop-r-smaller : goal.loop-r-smaller
-loop-r-smaller c = omega (arith, onward_is c)
+pub loop-next-smaller : goal.loop-next-smaller
+loop-next-smaller c =
+    let at = c.loop-next in
+    let f = sym c.record_fault.ensures ∙ fine _ c.in_ok-map_err.ensures.variant in
+    let on = turn_goes_on _ _ _ _ at.invariant.one at.invariant.most _ c.record_at-r.ensures f c.if-next-eq0.false in
+    omega (arith, on.0, on.1)
 
-pub loop-r-preserved : goal.loop-r-preserved
-loop-r-preserved c = let o = onward_is c in
-    (omega (arith, o), o.1, o.2 ∙ c.loop-r.invariant.2)
+pub loop-next-preserved : goal.loop-next-preserved
+loop-next-preserved c =
+    let at = c.loop-next in
+    let f = sym c.record_fault.ensures ∙ fine _ c.in_ok-map_err.ensures.variant in
+    let on = turn_goes_on _ _ _ _ at.invariant.one at.invariant.most _ c.record_at-r.ensures f c.if-next-eq0.false in
+    record { one = omega (arith, on.0); most = on.1; rest = on.2 ∙ at.invariant.rest }

@@ -1,5 +1,11 @@
-use Rattle.records.proofs.KindLaws.{record_words}
+use Rattle.std.proofs.Common.{arith, ◌<◌, ◌-◌, ◌/◌, length}
+use Rattle.records.specs.Check.{record_at}
+use Rattle.records.proofs.KindLaws.{chunk_at}
 use Rattle.records.proofs.record_at.Goals as goal
 
 pub returns : goal.returns
-returns c = record_words _ _ c.requires.le_own c.requires.own_in_bounds
+unfolding record_at
+returns c =
+    let a = c.args in
+    let h : a.own - 1 < length a.words.now / 8 = omega arith in
+    rw c.as_chunks.ensures.front (chunk_at (a.own - 1) (length a.words.now / 8) a.words.now h)

@@ -1,12 +1,9 @@
-use mathlib.Core.Path.{◌≡◌}
-use Prim.Native.Nat.{◌-◌}
-use lib.ListN.{length}
-use Rattle.transfer.specs.Transfer.{in_place_steps}
-use Rattle.access.proofs.Through.{Through}
+use Rattle.std.proofs.Common.{◌-◌, length}
+use Rattle.transfer.proofs.Exchanging.{Exchanging}
 use Rattle.transfer.proofs.transfer_in_place.Given as goal
 
 abbrev pub invariant-loop-idx : goal.invariant-loop-idx
-invariant-loop-idx l = (length l.log ≡ length l.initial.log) × Through in_place_steps l.initial.words l.limit l.answers l.initial.current l.initial.log l.current l.log l.words l.idx
+invariant-loop-idx l = Exchanging l.initial.words l.initial.block l.block l.words l.idx
 
 abbrev pub decreases-loop-idx : goal.decreases-loop-idx
 decreases-loop-idx l = length l.initial.words - l.idx

@@ -1,8 +1,11 @@
-use Rattle.blocking.proofs.Handed.{shut, opened}
+use mathlib.Core.Path.{refl}
+use Rattle.std.proofs.Common.{rules}
+use Rattle.blocking.proofs.Handed.{handed_on}
 use Rattle.blocking.proofs.BlockingQspi.new.Goals as goal
 
-pub returns-then-progress-ne0 : goal.returns-then-progress-ne0
-returns-then-progress-ne0 c = shut c.open-opened.ensures c.if-progress-ne0.true
-
 pub returns : goal.returns
-returns c = opened c.open-opened.ensures c.if-progress-ne0.false
+returns c =
+    let a = c.args in
+    handed_on (λ hz. record { instance = a.instance; qpi = a.qpi; limit = a.limit; sck_hz = hz; config = a.config })
+    (λ hz. refl) refl
+    (search rules) c.open-opened.ensures

@@ -1,5 +1,5 @@
-use Rattle.changes.proofs.Changes.{changes}
+use Rattle.std.proofs.Common.{rules}
 use Rattle.changes.proofs.phases.set_total_bytes.Goals as goal
 
 pub returns : goal.returns
-returns c = changes _ _ c.set_total_bytes-word.ensures c.query-read.ensures c.perform.ensures
+returns c = c.modify.ensures _ (λ word made e. search rules)

@@ -6,7 +6,7 @@ pub returns : goal.returns
 unfolding end_line
 returns c =
     puts_then c.put.ensures
-    (puts_then c.put_number.ensures.wrote
+    (puts_then (rw c.number.ensures at c.put_number.ensures.wrote)
     (puts_then c.put_number-2.ensures.wrote
     (puts_then c.put_number-3.ensures.wrote
     (puts_then c.put_number-4.ensures.wrote

@@ -1,12 +1,9 @@
-use mathlib.Core.Path.{◌≡◌}
-use Prim.Native.Nat.{◌-◌}
-use lib.ListN.{length}
-use Rattle.access.proofs.Through.{Through}
-use Rattle.qspi.proofs.Bytes.{reading}
+use Rattle.std.proofs.Common.{◌-◌, length}
+use Rattle.qspi.proofs.Pacing.{ReadingOn}
 use Rattle.qspi.proofs.phase.read_bytes.Given as goal
 
 abbrev pub invariant-loop-idx : goal.invariant-loop-idx
-invariant-loop-idx l = (length l.log ≡ length l.initial.log) × Through reading l.initial.buf l.limit l.answers l.initial.current l.initial.log l.current l.log l.buf l.idx
+invariant-loop-idx l = ReadingOn l.initial.bytes l.initial.block l.block l.bytes l.idx
 
 abbrev pub decreases-loop-idx : goal.decreases-loop-idx
-decreases-loop-idx l = length l.initial.buf - l.idx
+decreases-loop-idx l = length l.initial.bytes - l.idx

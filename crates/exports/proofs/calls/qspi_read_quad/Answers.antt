@@ -1,5 +1,0 @@
-use Rattle.exports.proofs.Counts.{gives_on}
-use Rattle.exports.proofs.calls.qspi_read_quad.Goals as goal
-
-pub returns : goal.returns
-returns c = gives_on c.tell.ensures c.read_quad-p.ensures.state
