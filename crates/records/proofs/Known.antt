@@ -2,7 +2,7 @@
 use Rattle.std.proofs.Common.{◌≡◌, ℕ, ◌/◌, true, List, length, Ok, Err}
 use Rattle.records.specs.Check.{known, field, Checked, ahead, chain_of}
 use Rattle.records.specs.Laws.{Each, KindsKnown}
-use Rattle.records.proofs.WalkLaws.{known_kind}
+use Rattle.records.proofs.KindLaws.{known_kind}
 use Rattle.records.proofs.Holds.{checked_holds}
 
 ahead_each : (P : List ℕ → Type 0) (r : List ℕ) (c : Checked) → P r → Each P (chain_of c)

@@ -1,47 +1,44 @@
 -- Which numbers the check never gives.
-use Rattle.std.proofs.Common.{◌≡◌, ℕ, ◌+◌, ◌≤◌, ◌/◌, Bool, true, false, cond, ◌&&◌, ltb, List, [], ◌∷◌, map, length}
+use Rattle.std.proofs.Common.{◌≡◌, ℕ, ◌+◌, ◌≤◌, ◌/◌, Bool, true, false, cond, ◌&&◌, ltb, List, [], ◌∷◌, length}
 use Rattle.std.proofs.Common.{Result, Ok, Err, ◌⊎◌, inl, inr, refl, ap, sym, ◌∙◌, arith}
 use Rattle.std.specs.List.{list_any}
 use Rattle.std.proofs.lemmas.Bool.{ltb-false, le-ltb}
 use Rattle.config.specs.declared.error.QspiError.{QspiError}
 use Rattle.config.specs.declared.error.QspiError.TheVariants.{Chain, Window, Length}
 use Rattle.config.specs.Error.{error_number}
-use Rattle.records.specs.Kinds.{kind_of}
-use Rattle.records.specs.Check.{outside_of, too_long, extent_in, extents_fault, windows_fault, field, record_fault}
+use Rattle.records.specs.Check.{outside_of, too_long, extents_of, extents_fault, windows_fault, record_fault}
 use Rattle.records.specs.Check.{Checked, ahead, checked}
 use Rattle.records.specs.Laws.{EachFault, Never6, FaultNumbers}
 use Rattle.records.specs.declared.extent.Extent.{Extent}
 use Rattle.records.proofs.KindLaws.{neither}
 use Rattle.records.proofs.Holds.{checked_holds}
 
-abbrev windows : List ℕ → List Extent
-windows r = map (extent_in r) (kind_of (field r 0)).windows
-
 -- 8, 9 or 6, the last only where no window is outside
 Which : ℕ → List ℕ → QspiError → Type 0
 Which memory r e =
-    let outside = list_any (outside_of memory) (windows r) in
-    let long = list_any too_long (windows r) in
+    let outside = list_any (outside_of memory) (extents_of r) in
+    let long = list_any too_long (extents_of r) in
     (e ≡ Chain) ⊎ ((e ≡ Window) ⊎ ((e ≡ Length) × (outside ≡ false) × (long ≡ true)))
 
 record_error : (highest memory count own : ℕ) (r : List ℕ) (e : QspiError)
     → record_fault highest memory count own r ≡ Err e → Which memory r e
 unfolding Which record_fault windows_fault extents_fault
-record_error highest memory count own r e = by _ _ refl _ refl
+record_error highest memory count own r e = by _ _ _ refl _ refl
   where
     by :
-        (a b : Bool)
-        → list_any (outside_of memory) (windows r) ≡ b
+        (a n b : Bool)
+        → list_any (outside_of memory) (extents_of r) ≡ b
         → (d : Bool)
-        → list_any too_long (windows r) ≡ d
+        → list_any too_long (extents_of r) ≡ d
         → ◌≡◌ {A = Result (Unit {0}) QspiError}
-        (cond a (cond b (Err Window) (cond d (Err Length) (Ok tt))) (Err Chain))
+        (cond a (Err Chain) (cond n (Err Chain) (cond b (Err Window) (cond d (Err Length) (Ok tt)))))
         (Err e)
         → Which memory r e
-    by false b p d q h = inl cc
-    by true true p d q h = inr (inl cc)
-    by true false p true q h = inr (inr (cc, p, q))
-    by true false p false q h = cc
+    by true n b p d q h = inl cc
+    by false true b p d q h = inl cc
+    by false false true p d q h = inr (inl cc)
+    by false false false p true q h = inr (inr (cc, p, q))
+    by false false false p false q h = cc
 
 -- What every fault's number is: what it is of every record, and 8.
 module _ (P : ℕ → Type 0) where
@@ -70,7 +67,7 @@ module _ (memory : ℕ) (small : memory ≤ 0xFFFFFF) where
   unfolding Which
   not_6 r e (inl p) z = let n : ◌≡◌ {A = ℕ} 8 6 = ap error_number (sym p) ∙ z in omega arith
   not_6 r e (inr (inl p)) z = let n : ◌≡◌ {A = ℕ} 9 6 = ap error_number (sym p) ∙ z in omega arith
-  not_6 r e (inr (inr p)) z = let n = inside_short (windows r) p.1 in cc
+  not_6 r e (inr (inr p)) z = let n = inside_short (extents_of r) p.1 in cc
 
 pub never_6 : Never6
 never_6 memory small highest ws =

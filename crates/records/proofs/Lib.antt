@@ -1,3 +1,4 @@
+pub mod Table
 pub mod KindLaws
 pub mod WalkLaws
 pub mod Holds

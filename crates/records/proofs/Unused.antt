@@ -2,7 +2,8 @@
 -- for.
 use Rattle.std.proofs.Common.{◌≡◌, ℕ, zero, suc, Bool, ltb, List, map, refl, ap, ◌∙◌, arith}
 use Rattle.std.specs.List.{list_any}
-use Rattle.records.specs.Kinds.{Cap, kind_of}
+use Rattle.records.specs.Kinds.{kind_of}
+use Rattle.records.specs.declared.kinds.Cap.{Cap}
 use Rattle.records.specs.Check.{field, out_of_range, extent_in, extents_fault, windows_fault, record_fault}
 use Rattle.records.specs.Laws.{Same, UnusedFields, HypothesesMet}
 use Rattle.records.specs.declared.extent.Extent.{Extent}

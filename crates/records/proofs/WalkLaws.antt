@@ -1,30 +1,23 @@
 -- The chain, record by record: what a record without a fault says of its next, and the ways that a turn of a loop along
 -- the chain can go.
-use Rattle.std.proofs.Common.{◌≡◌, ℕ, zero, suc, ◌+◌, ◌-◌, ◌*◌, ◌/◌, ◌%◌, ◌<◌, ◌≤◌, true, not, cond, ◌&&◌}
+use Rattle.std.proofs.Common.{◌≡◌, ℕ, zero, suc, ◌+◌, ◌-◌, ◌*◌, ◌/◌, ◌%◌, ◌<◌, ◌≤◌, true, cond}
 use Rattle.std.proofs.Common.{eqb, List, [], ◌∷◌, length, drop, Result, Ok, Err, ◌⊎◌, inl, inr}
 use Rattle.std.proofs.Common.{refl, ap, sym, ◌∙◌, arith}
-use Rattle.std.proofs.lemmas.Bool.{and_parts, ne_eqb, eq-eqb}
+use Rattle.std.proofs.lemmas.Bool.{ne_eqb, eq-eqb}
 use Rattle.std.proofs.lemmas.Bool.Decides.{nat_tests}
 use Rattle.std.proofs.Math.Seq.{drop-drop}
 use Rattle.config.specs.declared.error.QspiError.{QspiError}
-use Rattle.records.specs.Check.{record_at, next_of, field, known, out_of_range, next_fits, record_fault}
-use Rattle.records.proofs.KindLaws.{not_chain}
+use Rattle.records.specs.Check.{record_at, next_of, next_fits, record_fault}
+use Rattle.records.proofs.KindLaws.{fitting_next}
 use Rattle.records.specs.Check.{Checked, fault, ahead, step, records_in, along, checked, verdict}
 
 next_is : (own count n : ℕ) → next_fits own count n ≡ true → (n ≡ 0) ⊎ ((own < n) × (n ≤ count))
 next_is own count n h = grind (arith, nat_tests)
 
--- A record without a fault.
-module _ (highest memory count own : ℕ) (r : List ℕ) (e : record_fault highest memory count own r ≡ Ok tt) where
-  sound : (known highest (field r 0) && (not (out_of_range r) && next_fits own count (next_of r))) ≡ true
-  unfolding record_fault
-  sound = (not_chain _ _ e).0
-
-  pub known_kind : known highest (field r 0) ≡ true
-  known_kind = (and_parts _ _ sound).0
-
-  pub sound_next : (next_of r ≡ 0) ⊎ ((own < next_of r) × (next_of r ≤ count))
-  sound_next = next_is own count (next_of r) (and_parts _ _ (and_parts _ _ sound).1).1
+-- the next of a record without a fault
+pub sound_next : (highest memory count own : ℕ) (r : List ℕ) → record_fault highest memory count own r ≡ Ok tt
+    → (next_of r ≡ 0) ⊎ ((own < next_of r) × (next_of r ≤ count))
+sound_next highest memory count own r e = next_is own count (next_of r) (fitting_next highest memory count own r e)
 
 -- the records behind k others
 drop_records : (k n : ℕ) (ws : List ℕ) → drop k (records_in n ws) ≡ records_in (n - k) (drop (8 * k) ws)

@@ -6,9 +6,10 @@ use Rattle.std.specs.Simd.{first_chunks}
 use Rattle.config.specs.declared.error.QspiError.{QspiError}
 use Rattle.config.specs.declared.error.QspiError.TheVariants.{Chain, Window, Length}
 use Rattle.config.specs.Error.{error_number}
-use Rattle.records.specs.Kinds as kinds
-use Rattle.records.specs.Kinds.{Cap, kind_of}
+use Rattle.records.specs.Kinds.{kind_of}
 use Rattle.records.specs.declared.extent.Extent.{Extent}
+use Rattle.records.specs.declared.kinds.Window as kinds
+use Rattle.records.specs.declared.kinds.Cap.{Cap}
 use Rattle.records.specs.declared.Fault.{Fault}
 
 -- document 01's *record* i, counted from 1: eight words, kind, f1 to f6 and next
@@ -39,6 +40,10 @@ extent s n p = record { start = s; size = n; phase = p }
 abbrev pub extent_in : List ℕ → kinds.Window → Extent
 extent_in r w = extent (field r w.start) (field r w.size) w.phase
 
+-- those of all its windows
+abbrev pub extents_of : List ℕ → List Extent
+extents_of r = map (extent_in r) (kind_of (field r 0)).windows
+
 -- 9: one of the windows ends past the memory; 6: one of the lengths of a phase is above FFFFFF hex
 abbrev pub outside_of : ℕ → Extent → Bool
 outside_of memory e = ltb memory (e.start + e.size)
@@ -51,13 +56,13 @@ extents_fault memory es =
     cond (list_any (outside_of memory) es) (Err Window) (cond (list_any too_long es) (Err Length) (Ok tt))
 
 unfoldable pub windows_fault : ℕ → List ℕ → Result (Unit {0}) QspiError
-windows_fault memory r = extents_fault memory (map (extent_in r) (kind_of (field r 0)).windows)
+windows_fault memory r = extents_fault memory (extents_of r)
 
 -- the first fault of a record, if it has one
 unfoldable pub record_fault : ℕ → ℕ → ℕ → ℕ → List ℕ → Result (Unit {0}) QspiError
 record_fault highest memory count own r =
-    let sound = known highest (field r 0) && (not (out_of_range r) && next_fits own count (next_of r)) in
-    cond sound (windows_fault memory r) (Err Chain)
+    cond (not (known highest (field r 0)) || out_of_range r) (Err Chain)
+    (cond (not (next_fits own count (next_of r))) (Err Chain) (windows_fault memory r))
 
 -- the first fault with its record (0: the slice itself), or document 01's *chain*: its records, in order
 abbrev pub Checked : Type 0

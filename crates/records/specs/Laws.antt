@@ -1,8 +1,8 @@
 -- What is proved of the check, whatever the words.
-use Rattle.std.specs.Prelude.{◌≡◌, true, not, ◌&&◌, List, [], ◌∷◌, map, ◌⊎◌, ℕ, ◌≤◌, Ok, Err, is_some, IfSome}
+use Rattle.std.specs.Prelude.{◌≡◌, true, not, ◌&&◌, List, [], ◌∷◌, ◌⊎◌, ℕ, ◌≤◌, Ok, Err, is_some, IfSome}
 use Rattle.config.specs.Error.{error_number}
 use Rattle.records.specs.Kinds.{kind_of}
-use Rattle.records.specs.Check.{known, out_of_range, field, next_of, extent_in, record_fault}
+use Rattle.records.specs.Check.{known, out_of_range, field, next_of, extents_of, record_fault}
 use Rattle.records.specs.Check.{Checked, checked, chain_of}
 use Rattle.records.specs.Record.{record_of, windows_of}
 
@@ -43,7 +43,7 @@ StatesKnown = (r : List ℕ) → is_some (record_of r) ≡ (known 9 (field r 0) 
 -- The windows of the record that words state are those of the table of kinds.
 abbrev pub StatesWindows : Type 0
 StatesWindows =
-    (r : List ℕ) → IfSome (record_of r) (λ s. windows_of s ≡ map (extent_in r) (kind_of (field r 0)).windows)
+    (r : List ℕ) → IfSome (record_of r) (λ s. windows_of s ≡ extents_of r)
 
 -- two records with the same values in these fields
 abbrev pub Same : List ℕ → List ℕ → List ℕ → Type 0

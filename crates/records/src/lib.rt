@@ -7,6 +7,7 @@ ghost use Rattle.records.specs.Check.{record_at, next_fits, record_fault, checke
 use config::QspiError;
 
 pub mod extent;
+pub mod kinds;
 pub mod record;
 
 pub use extent::Extent;
@@ -37,6 +38,7 @@ fn next_fits(own: usize, count: usize, next: usize) -> bool
 }
 
 // The first fault of record `own` of `count`.
+#[tactic(auto, unfolding(crate::specs::Check::record_fault))]
 fn record_fault(
     r: [u32; 8],
     own: usize,
@@ -46,12 +48,13 @@ fn record_fault(
 ) -> Result<(), QspiError>
     ensures { result ≡ record_fault highest memory count own r }
 {
-    let record = Record::of(r).ok_or(QspiError::Chain)?;
-    if r[0] <= highest && next_fits(own, count, r[7] as usize) {
-        record.windows_fault(memory)
-    } else {
-        Err(QspiError::Chain)
+    if !kinds::known(highest, r[0]) || kinds::out_of_range(&r) {
+        return Err(QspiError::Chain);
     }
+    if !next_fits(own, count, r[7] as usize) {
+        return Err(QspiError::Chain);
+    }
+    kinds::windows_fault(&r, memory)
 }
 
 // Goes along the chain from its first record, and stops at the first fault.
