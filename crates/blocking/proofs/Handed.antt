@@ -7,7 +7,8 @@ use Rattle.std.specs.Prelude.{Option, Some, None, option_map, unwrap_or}
 use lib.Dec.{eqb}
 use Rattle.access.specs.Of.{state_of, number_in}
 use Rattle.opening.specs.declared.Opened as opening
-use Rattle.opening.specs.Call.{Opening, Opens, rate_of}
+use Rattle.opening.specs.declared.Opening.{Opening}
+use Rattle.opening.specs.Call.{Opens, rate_of}
 use Rattle.blocking.specs.declared.BlockingQspi.{BlockingQspi}
 use Rattle.blocking.specs.Opened.{News, bus_of}
 

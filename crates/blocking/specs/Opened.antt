@@ -2,7 +2,8 @@
 use Rattle.std.specs.Prelude.{◌≡◌, cond, List, ℕ, eqb, Option, Some, None, option_map, unwrap_or}
 use Rattle.access.specs.declared.progress.Progress.{Progress}
 use Rattle.access.specs.Of.{state_of, number_in}
-use Rattle.opening.specs.Call.{Opening, Result, rate_of, opens}
+use Rattle.opening.specs.declared.Opening.{Opening}
+use Rattle.opening.specs.Call.{Result, rate_of, opens}
 use Rattle.blocking.specs.declared.BlockingQspi.{BlockingQspi}
 use Rattle.blocking.specs.declared.Opened.{Opened}
 

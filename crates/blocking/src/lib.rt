@@ -5,14 +5,14 @@ ghost use Rattle.std.specs.Prelude.{◌≡◌, length};
 ghost use Rattle.clock.specs.Dummies.{dummies};
 ghost use Rattle.bus.specs.Calls.{Call};
 ghost use Rattle.bus.specs.Does.{Called, CalledOn};
-ghost use Rattle.opening.specs.Call.{opening_of, Releases};
+ghost use Rattle.opening.specs.Call.{Releases};
 ghost use Rattle.chain.specs.Transaction.{Transacts};
 ghost use Rattle.chain.specs.Transaction.{transaction as Transaction·transaction};
 ghost use Rattle.blocking.specs.Opened.{News};
 
 use access::Progress;
 use config::{QspiConfig, WorkMode};
-use opening::ClockTree;
+use opening::Opening;
 
 #[derive(Clone, Copy)]
 pub struct BlockingQspi {
@@ -34,25 +34,17 @@ pub struct Opened {
 }
 
 impl BlockingQspi {
-    // Opens the bus of an instance. `qpi`: the chip has QPI.
-    pub fn new(
-        instance: u32,
-        qpi: bool,
-        limit: u32,
-        log: &mut [u32],
-        answers: &[u32],
-        config: QspiConfig,
-        clock_tree: ClockTree,
-    ) -> Opened
-        ensures { News (opening_of instance qpi config clock_tree) limit answers.now log.old result log.new }
+    // Opens the bus of an instance.
+    pub fn new(limit: u32, log: &mut [u32], answers: &[u32], opening: Opening) -> Opened
+        ensures { News opening limit answers.now log.old result log.new }
     {
-        let opened = opening::open(instance, qpi, limit, log, answers, config, clock_tree);
+        let opened = opening::open(limit, log, answers, opening);
         let bus = opened.sck_hz.map(|sck_hz| BlockingQspi {
-            instance,
-            qpi,
+            instance: opening.instance,
+            qpi: opening.qpi,
             limit,
             sck_hz,
-            config,
+            config: opening.config,
         });
         Opened {
             progress: opened.progress,

@@ -1,8 +1,7 @@
 -- What an exported call gives: its number, its counts, the log and the memory, as the call's definition says.
-use Rattle.std.specs.Prelude.{◌≡◌, Bool, List, ℕ, Option}
+use Rattle.std.specs.Prelude.{◌≡◌, List, ℕ, Option}
 use Rattle.model.specs.State.{State}
-use Rattle.config.specs.declared.config.QspiConfig.{QspiConfig}
-use Rattle.opening.specs.declared.ClockTree.{ClockTree}
+use Rattle.opening.specs.declared.Opening.{Opening}
 use Rattle.counts.specs.Told.{state_of}
 use Rattle.numbered.specs.Calls.{opening_outcome}
 
@@ -15,8 +14,7 @@ pub record GivesOn (outcome : State) (log' m' : List ℕ) (number entries taken 
   pub state : state_of number entries taken polls longest log' m' ≡ outcome
 
 -- an opening, whose configuration is numbers, with its rate
-pub record GivesOpening (found : Option QspiConfig) (instance : ℕ) (qpi : Bool) (tree : ClockTree) (limit : ℕ)
-    (answers log log' : List ℕ)
+pub record GivesOpening (found : Option Opening) (limit : ℕ) (answers log log' : List ℕ)
     (rate number entries taken polls longest : ℕ) : Type 0 where
   pub result : (m : List ℕ)
-      → record { state = state_of number entries taken polls longest log' m; rate = rate } ≡ opening_outcome found instance qpi tree limit answers log m
+      → record { state = state_of number entries taken polls longest log' m; rate = rate } ≡ opening_outcome found limit answers log m

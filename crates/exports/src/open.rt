@@ -2,11 +2,13 @@
 ghost use Rattle.config.specs.Config.{work_mode_of};
 ghost use Rattle.config_numbers.specs.Settings.{ctrl_mode_of, cs_of, mode_of, config_of};
 ghost use Rattle.opening.specs.Call.{releases};
+ghost use Rattle.numbered.specs.Calls.{opening_with};
 ghost use Rattle.exports.specs.Calls.{Gives, GivesOpening};
 ghost use Rattle.std.specs.Prelude.{ℕ};
 
 use config_numbers::ConfigNumbers;
 use counts::tell;
+use opening::{ClockTree, Opening};
 
 // Opens the bus of an instance and writes its rate, which is 0 unless the number is 0. `qpi`: the chip has QPI; `work_mode`: its number.
 pub fn qspi_open(
@@ -34,7 +36,7 @@ pub fn qspi_open(
     polls: &mut usize,
     longest: &mut u32,
 ) -> u32
-    ensures { GivesOpening (config_of (work_mode_of work_mode) freq (mode_of idle_high second_transition) (ctrl_mode_of master) bit_mode lsb_first (cs_of cs cs_idle_high cs_high cs_1)) instance qpi (record { pll_fra0 = pll_hz; osc_24m = osc_hz }) limit answers.now log.old log.new sck_hz.new result entries.new taken.new polls.new longest.new }
+    ensures { GivesOpening (opening_with instance qpi (record { pll_fra0 = pll_hz; osc_24m = osc_hz }) (config_of (work_mode_of work_mode) freq (mode_of idle_high second_transition) (ctrl_mode_of master) bit_mode lsb_first (cs_of cs cs_idle_high cs_high cs_1))) limit answers.now log.old log.new sck_hz.new result entries.new taken.new polls.new longest.new }
 {
     let numbers = ConfigNumbers {
         freq,
@@ -49,8 +51,17 @@ pub fn qspi_open(
         cs_high,
         cs_1,
     };
-    let found = numbers.config();
-    let opened = numbered::open_found(instance, qpi, limit, log, answers, found, pll_hz, osc_hz);
+    let clock_tree = ClockTree {
+        pll_fra0: pll_hz,
+        osc_24m: osc_hz,
+    };
+    let found = numbers.config().map(|config| Opening {
+        instance,
+        qpi,
+        config,
+        clock_tree,
+    });
+    let opened = numbered::open_found(limit, log, answers, found);
     *sck_hz = opened.sck_hz.unwrap_or(0);
     tell(opened.progress, entries, taken, polls, longest)
 }

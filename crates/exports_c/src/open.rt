@@ -2,6 +2,7 @@
 ghost use Rattle.config.specs.Config.{work_mode_of};
 ghost use Rattle.config_numbers.specs.Settings.{ctrl_mode_of, cs_of, mode_of, config_of};
 ghost use Rattle.opening.specs.Call.{releases};
+ghost use Rattle.numbered.specs.Calls.{opening_with};
 ghost use Rattle.exports.specs.Calls.{Gives, GivesOpening};
 ghost use Rattle.std.specs.Prelude.{ℕ};
 
@@ -32,7 +33,7 @@ pub extern "C" fn qspi_open(
     polls: &mut usize,
     longest: &mut u32,
 ) -> u32
-    ensures { GivesOpening (config_of (work_mode_of work_mode) freq (mode_of idle_high second_transition) (ctrl_mode_of master) bit_mode lsb_first (cs_of cs cs_idle_high cs_high cs_1)) instance qpi (record { pll_fra0 = pll_hz; osc_24m = osc_hz }) limit answers.now log.old log.new sck_hz.new result entries.new taken.new polls.new longest.new }
+    ensures { GivesOpening (opening_with instance qpi (record { pll_fra0 = pll_hz; osc_24m = osc_hz }) (config_of (work_mode_of work_mode) freq (mode_of idle_high second_transition) (ctrl_mode_of master) bit_mode lsb_first (cs_of cs cs_idle_high cs_high cs_1))) limit answers.now log.old log.new sck_hz.new result entries.new taken.new polls.new longest.new }
 {
     exports::open::qspi_open(
         limit,

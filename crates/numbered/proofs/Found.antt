@@ -3,7 +3,6 @@ use mathlib.Core.Path.{◌≡◌, refl}
 use mathlib.Core.Bool.{Bool}
 use mathlib.Core.List.{List}
 use Prim.Native.Nat.{ℕ}
-use Rattle.config.specs.declared.config.QspiConfig.{QspiConfig}
 use Rattle.config.specs.declared.config.WorkMode.{WorkMode}
 use Rattle.std.specs.Prelude.{Option, Some, None}
 use Rattle.config_numbers.specs.Limit.{no_mode}
@@ -14,9 +13,9 @@ use Rattle.config.specs.declared.error.QspiError.TheVariants.{Chain}
 use Rattle.config.specs.Error.{error_number}
 use Rattle.bus.specs.Calls.{Call}
 use Rattle.bus.specs.Does.{Called}
-use Rattle.opening.specs.declared.ClockTree.{ClockTree}
+use Rattle.opening.specs.declared.Opening.{Opening}
 use Rattle.opening.specs.declared.Opened.{Opened}
-use Rattle.opening.specs.Call.{opening_of, Opens}
+use Rattle.opening.specs.Call.{Opens}
 use Rattle.numbered.specs.Calls.{CalledMode, OpensFound}
 
 module _ {found : Option WorkMode} {qpi : Bool} {limit : ℕ} {answers log : List ℕ} {p : Progress} where
@@ -29,13 +28,12 @@ module _ {found : Option WorkMode} {qpi : Bool} {limit : ℕ} {answers log : Lis
       → CalledMode found qpi limit answers log p log
   called_none e k q = rw (e, q) (record { state = λ m. rw (← k) refl })
 
-module _ {found : Option QspiConfig} {instance : ℕ} {qpi : Bool} {tree : ClockTree} {limit : ℕ}
-    {answers log : List ℕ} where
-  pub found_known : {config : QspiConfig} {r : Opened} {log' : List ℕ} → found ≡ Some config
-      → Opens (opening_of instance qpi config tree) limit answers log r log'
-      → OpensFound found instance qpi tree limit answers log r log'
+module _ {found : Option Opening} {limit : ℕ} {answers log : List ℕ} where
+  pub found_known : {opening : Opening} {r : Opened} {log' : List ℕ} → found ≡ Some opening
+      → Opens opening limit answers log r log'
+      → OpensFound found limit answers log r log'
   found_known e d = rw e (record { result = d.result })
 
   pub found_none : {p : Progress} → found ≡ None → p ≡ refused Chain
-      → OpensFound found instance qpi tree limit answers log (record { progress = p; sck_hz = None }) log
+      → OpensFound found limit answers log (record { progress = p; sck_hz = None }) log
   found_none e q = rw (e, q) (record { result = λ m. refl })

@@ -1,12 +1,12 @@
-// The calls whose work mode or configuration is numbers, which may be none.
+// The calls whose work mode or configuration is found by numbers, which may be of none.
 #![tactic(auto)]
 
 ghost use Rattle.config.specs.Config.{work_mode_of};
 ghost use Rattle.numbered.specs.Calls.{CalledMode, OpensFound};
 
 use access::Progress;
-use config::{QspiConfig, QspiError, WorkMode};
-use opening::{ClockTree, Opened};
+use config::{QspiError, WorkMode};
+use opening::{Opened, Opening};
 
 // The work mode of a number, 0 to 6; 8 for another, after 7.
 pub fn set_numbered_mode(
@@ -24,27 +24,12 @@ pub fn set_numbered_mode(
     }
 }
 
-// Opens with a configuration; 8 without one, before anything else is tested.
-pub fn open_found(
-    instance: u32,
-    qpi: bool,
-    limit: u32,
-    log: &mut [u32],
-    answers: &[u32],
-    found: Option<QspiConfig>,
-    pll_hz: u32,
-    osc_hz: u32,
-) -> Opened
-    ensures { OpensFound found instance qpi (record { pll_fra0 = pll_hz; osc_24m = osc_hz }) limit answers.now log.old result log.new }
+// Opens what was found; 8 where nothing was, before anything else is tested.
+pub fn open_found(limit: u32, log: &mut [u32], answers: &[u32], found: Option<Opening>) -> Opened
+    ensures { OpensFound found limit answers.now log.old result log.new }
 {
     match found {
-        Some(config) => {
-            let clock_tree = ClockTree {
-                pll_fra0: pll_hz,
-                osc_24m: osc_hz,
-            };
-            opening::open(instance, qpi, limit, log, answers, config, clock_tree)
-        }
+        Some(opening) => opening::open(limit, log, answers, opening),
         None => Opened {
             progress: Progress::refused(QspiError::Chain),
             sck_hz: None,

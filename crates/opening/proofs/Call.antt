@@ -15,8 +15,6 @@ use Rattle.model.specs.State.{advance}
 use Rattle.model.proofs.Called.{called_refused, called_runs}
 use Rattle.config.specs.Spi.{supported}
 use Rattle.config.specs.Config.{is_qpi}
-use Rattle.config.specs.declared.spi.Mode.{Mode}
-use Rattle.config.specs.declared.config.WorkMode.{WorkMode}
 use Rattle.clock.specs.declared.Choice.{Choice}
 use Rattle.clock.specs.Rank.{choice}
 use Rattle.clock.specs.Answer.{sck}
@@ -30,26 +28,26 @@ use Rattle.access.specs.Does.{Works}
 use Rattle.access.proofs.Makes.{error_ne0}
 use Rattle.access.specs.Makes.{Begun, Makes, progress_of}
 use Rattle.opening.specs.Steps.{opening_steps, release_steps}
+use Rattle.opening.specs.declared.Opening.{Opening}
 use Rattle.opening.specs.declared.Opened.{Opened}
-use Rattle.opening.specs.Call.{Opening, refusal, opening_refusal, rate_of, steps_of, opens, releases}
+use Rattle.opening.specs.Call.{opening_refusal, rate_of, steps_of, opens, releases}
 use Rattle.opening.specs.Call.{no_polls, opened_with, Opens, Releases}
 
 -- What is not refused is an instance up to 3.
-pub accepted : (mode : Mode) (instance : ℕ) (work : WorkMode) (qpi : Bool) (limit : ℕ) {n : ℕ}
-    → n ≡ refusal mode instance work qpi limit → n ≡ 0 → instance < 4
-unfolding refusal
-accepted mode instance work qpi limit r z =
-    by (not (supported mode)) (ltb 3 instance) (is_qpi work && not qpi) (eqb limit 0) refl (sym r ∙ z)
+pub accepted : (o : Opening) (limit : ℕ) {n : ℕ} → n ≡ opening_refusal o limit → n ≡ 0 → o.instance < 4
+unfolding opening_refusal
+accepted o limit r z =
+    by (not (supported o.config.mode)) (ltb 3 o.instance) (is_qpi o.config.work_mode && not o.qpi) (eqb limit 0) refl (sym r ∙ z)
   where
-    by : (a b c d : Bool) → ltb 3 instance ≡ b → cond {A = ℕ} a 3 (cond b 4 (cond c 5 (cond d 7 0))) ≡ 0 → instance < 4
+    by : (a b c d : Bool) → ltb 3 o.instance ≡ b → cond {A = ℕ} a 3 (cond b 4 (cond c 5 (cond d 7 0))) ≡ 0 → o.instance < 4
     by true b c d e h = absurd (omega (arith, h))
     by false true c d e h = absurd (omega (arith, h))
-    by false false c d e h = let i : instance ≤ 3 = ltb-false _ _ e in omega arith
+    by false false c d e h = let i : o.instance ≤ 3 = ltb-false _ _ e in omega arith
 
 -- The steps and the rate of the clock that the code has chosen.
-module _ (o : Opening) {target hz : ℕ} {c : Choice} (t : target ≡ clamped o.config.freq) (e : c ≡ choice o.pll target)
-    (h : hz ≡ (sck o.pll c.mod_div c.divider).hz) where
-  chosen_steps : opening_steps o.instance c.mod_div c.divider hz o.oscillator o.config ≡ steps_of o
+module _ (o : Opening) {target hz : ℕ} {c : Choice} (t : target ≡ clamped o.config.freq) (e : c ≡ choice o.clock_tree.pll_fra0 target)
+    (h : hz ≡ (sck o.clock_tree.pll_fra0 c.mod_div c.divider).hz) where
+  chosen_steps : opening_steps o.instance c.mod_div c.divider hz o.clock_tree.osc_24m o.config ≡ steps_of o
   unfolding steps_of
   chosen_steps = rw (h, e, t) refl
 
@@ -87,8 +85,8 @@ module _ {x : MutBor (List ℕ)} {y : Bor (List ℕ)} {b r : RegisterBlock}
 
   pub runs_opens : (o : Opening) (limit : ℕ) {target hz : ℕ} {c : Choice} {d : Opened}
       → Refuses limit (opening_refusal o limit) (Ok l) → target ≡ clamped o.config.freq
-      → c ≡ choice o.pll target → hz ≡ (sck o.pll c.mod_div c.divider).hz
-      → opening_steps o.instance c.mod_div c.divider hz o.oscillator o.config ≡ s → d ≡ opened_with hz p
+      → c ≡ choice o.clock_tree.pll_fra0 target → hz ≡ (sck o.clock_tree.pll_fra0 c.mod_div c.divider).hz
+      → opening_steps o.instance c.mod_div c.divider hz o.clock_tree.osc_24m o.config ≡ s → d ≡ opened_with hz p
       → Opens o limit y.now x.now d log'
   unfolding opens
   runs_opens o limit i t e h k f =

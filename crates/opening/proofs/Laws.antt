@@ -10,7 +10,8 @@ use Rattle.model.proofs.Called.{called_refused, others_touch_nothing, refusal_no
 use Rattle.config.specs.Spi.{supported}
 use Rattle.config.specs.Config.{is_qpi}
 use Rattle.opening.specs.Steps.{release_steps}
-use Rattle.opening.specs.Call.{Opening, refusal, opening_refusal, steps_of, rate_of, with_rate, opens, releases}
+use Rattle.opening.specs.declared.Opening.{Opening}
+use Rattle.opening.specs.Call.{opening_refusal, steps_of, rate_of, with_rate, opens, releases}
 use Rattle.opening.specs.Laws.{OpeningAgain, ReleaseAgain, OpeningPolls, ReleasePolls, OpeningRefused, OpeningUntouched}
 use Rattle.opening.proofs.Polls.{opening_waits, release_waits, called_polls}
 
@@ -35,11 +36,11 @@ no_last false false false d h = refl
 
 module _ (o : Opening) where
   not_two : (limit : ℕ) → opening_refusal o limit ≡ 2 → ⊥
-  unfolding refusal
+  unfolding opening_refusal
   not_two limit = never_two (not (supported o.config.mode)) (ltb 3 o.instance) (is_qpi o.config.work_mode && not o.qpi) (eqb limit 0)
 
   not_refused : (limit limit' : ℕ) → 0 < limit' → opening_refusal o limit ≡ 0 → opening_refusal o limit' ≡ 0
-  unfolding refusal
+  unfolding opening_refusal
   not_refused limit limit' some h =
       rw (ne_eqb limit' 0 (λ z. omega (arith, z)))
       (no_last (not (supported o.config.mode)) (ltb 3 o.instance) (is_qpi o.config.work_mode && not o.qpi) (eqb limit 0) h)

@@ -22,7 +22,8 @@ use Rattle.clock.specs.declared.DividerSelect.{DividerSelect}
 use Rattle.clock.specs.declared.DividerSelect.TheVariants.{Cdr1, Cdr2}
 use Rattle.configure.specs.Steps.{enable_module_clock, clock_divider, controller_clock, controller_on, chip_select, transfer_format, transfer_config, bus_mode, configure_work_mode, register_steps, fifo_steps}
 use Rattle.opening.specs.Steps.{opening_steps, release_steps}
-use Rattle.opening.specs.Call.{Opening, steps_of}
+use Rattle.opening.specs.declared.Opening.{Opening}
+use Rattle.opening.specs.Call.{steps_of}
 
 -- A trace with no poll has no longest either.
 quiet : (t : List Event) → (tally_of t).polls ≡ 0 → tally_of t ≡ none

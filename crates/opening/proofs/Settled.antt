@@ -12,13 +12,13 @@ use Rattle.clock.specs.Candidate.{factor_at}
 use Rattle.clock.specs.Rank.{rank, lowest, chosen}
 use Rattle.configure.specs.Steps.{enable_module_clock, clock_divider, controller_clock, controller_on, chip_select, transfer_format, transfer_config, bus_mode, configure_work_mode, register_steps, fifo_steps}
 use Rattle.opening.specs.Steps.{opening_steps, release_steps}
-use Rattle.opening.specs.Call.{refusal, steps_of, opens, releases}
+use Rattle.opening.specs.Call.{opening_refusal, steps_of, opens, releases}
 use Rattle.opening.specs.Settled.{end_of, log_of, released_log, Settled, HypothesesMet}
 
 pub settled : Settled
 unfolding end_of log_of released_log set_field head_of value_of answer_of answers_of words stored plus tally_event tally_of then change entered answered run room_of ran
     onward advance called factor_at rank lowest chosen enable_module_clock clock_divider controller_clock controller_on chip_select transfer_format transfer_config bus_mode
-    configure_work_mode register_steps fifo_steps opening_steps release_steps refusal steps_of opens releases
+    configure_work_mode register_steps fifo_steps opening_steps release_steps opening_refusal steps_of opens releases
 settled =
     record {
       default_log = refl;
@@ -41,5 +41,5 @@ settled =
 pub hypotheses_met : HypothesesMet
 unfolding set_field head_of value_of answer_of answers_of words stored plus tally_event tally_of then change entered answered run room_of ran onward advance called
     factor_at rank lowest chosen enable_module_clock clock_divider controller_clock controller_on chip_select transfer_format transfer_config bus_mode configure_work_mode register_steps
-    fifo_steps opening_steps release_steps refusal steps_of opens releases
+    fifo_steps opening_steps release_steps opening_refusal steps_of opens releases
 hypotheses_met = record { opened = inl refl; released = inl refl; refused = λ h. omega (arith, h); refused_by = refl }

@@ -1,13 +1,10 @@
 -- An opening and a release as a user calls them: what is refused, and what is given for every input
 -- (document 01, "How a call ends").
-use Rattle.std.specs.Prelude.{◌≡◌, Bool, cond, not, ◌&&◌, List, ℕ, eqb, ltb, Option, Some, None, unwrap_or}
+use Rattle.std.specs.Prelude.{◌≡◌, cond, not, ◌&&◌, List, ℕ, eqb, ltb, Option, Some, None, unwrap_or}
 use Rattle.model.specs.Steps.{Steps}
 use Rattle.model.specs.State.{State, called}
 use Rattle.config.specs.Spi.{supported}
 use Rattle.config.specs.Config.{is_qpi}
-use Rattle.config.specs.declared.spi.Mode.{Mode}
-use Rattle.config.specs.declared.config.WorkMode.{WorkMode}
-use Rattle.config.specs.declared.config.QspiConfig.{QspiConfig}
 use Rattle.clock.specs.declared.Choice.{Choice}
 use Rattle.clock.specs.Rank.{choice}
 use Rattle.clock.specs.Answer.{sck}
@@ -15,39 +12,25 @@ use Rattle.clock.specs.Dummies.{clamped}
 use Rattle.access.specs.declared.progress.Tally.{Tally}
 use Rattle.access.specs.declared.progress.Progress.{Progress}
 use Rattle.access.specs.Of.{state_of, number_in}
-use Rattle.opening.specs.declared.ClockTree.{ClockTree}
+use Rattle.opening.specs.declared.Opening.{Opening}
 use Rattle.opening.specs.declared.Opened.{Opened}
 use Rattle.opening.specs.Steps.{opening_steps, release_steps}
 
--- what is opened: everything that an opening is given but its limit and its answers
-pub record Opening : Type 0 where
-  pub instance : ℕ
-  pub qpi : Bool  -- the chip has QPI
-  pub config : QspiConfig
-  pub pll : ℕ
-  pub oscillator : ℕ
-
-abbrev pub opening_of : ℕ → Bool → QspiConfig → ClockTree → Opening
-opening_of instance qpi config tree =
-    record { instance = instance; qpi = qpi; config = config; pll = tree.pll_fra0; oscillator = tree.osc_24m }
-
 -- the first that holds: 3 SPI mode 1 or 3, 4 instance above 3, 5 QPI on a chip without it, 7 limit 0; else 0
-unfoldable pub refusal : Mode → ℕ → WorkMode → Bool → ℕ → ℕ
-refusal mode instance work qpi limit =
-    cond (not (supported mode)) 3 (cond (ltb 3 instance) 4 (cond (is_qpi work && not qpi) 5 (cond (eqb limit 0) 7 0)))
-
-abbrev pub opening_refusal : Opening → ℕ → ℕ
-opening_refusal o limit = refusal o.config.mode o.instance o.config.work_mode o.qpi limit
+unfoldable pub opening_refusal : Opening → ℕ → ℕ
+opening_refusal o limit =
+    let c = o.config in
+    cond (not (supported c.mode)) 3 (cond (ltb 3 o.instance) 4 (cond (is_qpi c.work_mode && not o.qpi) 5 (cond (eqb limit 0) 7 0)))
 
 -- the clock, for the target clamped; and the rate that it gives
 abbrev pub clock_of : Opening → Choice
-clock_of o = choice o.pll (clamped o.config.freq)
+clock_of o = choice o.clock_tree.pll_fra0 (clamped o.config.freq)
 
 abbrev pub rate_of : Opening → ℕ
-rate_of o = (sck o.pll (clock_of o).mod_div (clock_of o).divider).hz
+rate_of o = (sck o.clock_tree.pll_fra0 (clock_of o).mod_div (clock_of o).divider).hz
 
 unfoldable pub steps_of : Opening → Steps
-steps_of o = opening_steps o.instance (clock_of o).mod_div (clock_of o).divider (rate_of o) o.oscillator o.config
+steps_of o = opening_steps o.instance (clock_of o).mod_div (clock_of o).divider (rate_of o) o.clock_tree.osc_24m o.config
 
 -- What an opening gives: the number, the four counts, the log and the memory, and the rate.
 pub record Result : Type 0 where

@@ -4,7 +4,8 @@ use Rattle.model.specs.Tally.{none}
 use Rattle.model.specs.State.{begun, with_number}
 use Rattle.model.specs.Called.{Untouched}
 use Rattle.model.specs.Limit.{Ended, AgainCall}
-use Rattle.opening.specs.Call.{Opening, Result, opening_refusal, opens, releases}
+use Rattle.opening.specs.declared.Opening.{Opening}
+use Rattle.opening.specs.Call.{Result, opening_refusal, opens, releases}
 
 -- The second opening against the first: done exactly when its limit is above the first's longest, and then alike, in its rate too.
 pub record AgainOpening (limit : ℕ) (first second : Result) : Type 0 where

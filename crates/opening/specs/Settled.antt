@@ -9,11 +9,18 @@ use Rattle.config.specs.declared.config.WorkMode.{WorkMode}
 use Rattle.config.specs.declared.config.WorkMode.TheVariants.{ThreeWire, Qpi}
 use Rattle.config.specs.declared.config.QspiConfig.{QspiConfig}
 use Rattle.config.specs.Config.{default_config, nor_flash}
-use Rattle.opening.specs.Call.{Opening, opening_refusal, opens, releases}
+use Rattle.opening.specs.declared.Opening.{Opening}
+use Rattle.opening.specs.Call.{opening_refusal, opens, releases}
 
 -- a configuration on an instance, with a PLL of 1,200,000,000 Hz (P1) and an oscillator of 24,000,000 Hz
 abbrev pub asked : ℕ → QspiConfig → Opening
-asked instance config = record { instance = instance; qpi = false; config = config; pll = 1_200_000_000; oscillator = 24_000_000 }
+asked instance config =
+    record {
+      instance = instance;
+      qpi = false;
+      config = config;
+      clock_tree = record { pll_fra0 = 1_200_000_000; osc_24m = 24_000_000 };
+    }
 
 -- the default configuration in another SPI mode and work mode
 abbrev pub in_mode : Mode → WorkMode → QspiConfig
@@ -46,8 +53,7 @@ odd =
         lsb_first = true;
         cs_config = None;
       };
-      pll = 1_200_000_000;
-      oscillator = 9_999_999;
+      clock_tree = record { pll_fra0 = 1_200_000_000; osc_24m = 9_999_999 };
     }
 
 -- number, entries, answers, polls, longest and rate of an opening with room for so many entries, and so many answers

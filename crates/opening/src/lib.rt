@@ -5,7 +5,7 @@ ghost use Rattle.std.specs.Prelude.{◌≡◌, ◌<◌};
 ghost use Rattle.clock.specs.Answer.{sck};
 ghost use Rattle.access.specs.Makes.{Makes};
 ghost use Rattle.opening.specs.Steps.{opening_steps, release_steps};
-ghost use Rattle.opening.specs.Call.{opening_of, opened_with, Opens, Releases};
+ghost use Rattle.opening.specs.Call.{opened_with, Opens, Releases};
 
 use access::{Progress, RegisterBlock};
 use clock::{Choice, DividerSelect};
@@ -21,6 +21,16 @@ pub mod refusal;
 pub struct ClockTree {
     pub pll_fra0: u32,
     pub osc_24m: u32,
+}
+
+// What is opened: everything that an opening is given but its limit and its answers.
+#[derive(Clone, Copy)]
+pub struct Opening {
+    pub instance: u32,
+    // The chip has QPI.
+    pub qpi: bool,
+    pub config: QspiConfig,
+    pub clock_tree: ClockTree,
 }
 
 // How an opening ended, and the rate of its bus where it is done.
@@ -64,19 +74,11 @@ fn with_rate(progress: Progress, sck_hz: u32) -> Opened
     }
 }
 
-// Opens the bus of an instance. `qpi`: the chip has QPI.
-pub fn open(
-    instance: u32,
-    qpi: bool,
-    limit: u32,
-    log: &mut [u32],
-    answers: &[u32],
-    config: QspiConfig,
-    clock_tree: ClockTree,
-) -> Opened
-    ensures { Opens (opening_of instance qpi config clock_tree) limit answers.now log.old result log.new }
+// Opens the bus of an instance.
+pub fn open(limit: u32, log: &mut [u32], answers: &[u32], opening: Opening) -> Opened
+    ensures { Opens opening limit answers.now log.old result log.new }
 {
-    let limit = match refusal::refused(config.mode, instance, config.work_mode, qpi, limit) {
+    let limit = match refusal::refused(limit, opening) {
         Ok(limit) => limit,
         Err(error) => {
             return Opened {
@@ -85,6 +87,12 @@ pub fn open(
             };
         }
     };
+    let Opening {
+        instance,
+        config,
+        clock_tree,
+        ..
+    } = opening;
     let pll = clock_tree.pll_fra0;
     let choice = clock::select_clock(pll, clock::clamp_target(config.freq));
     let sck_hz = rate(pll, choice.mod_div, choice.divider);

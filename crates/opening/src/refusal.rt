@@ -2,9 +2,10 @@
 ghost use Rattle.std.specs.Prelude.{◌≡◌, not, ◌&&◌};
 ghost use Rattle.access.specs.Of.{Refuses};
 ghost use Rattle.config.specs.Config.{is_qpi};
-ghost use Rattle.opening.specs.Call.{refusal};
+ghost use Rattle.opening.specs.Call.{opening_refusal};
 
-use config::{Mode, QspiError, WorkMode};
+use super::Opening;
+use config::{QspiError, WorkMode};
 use std::num::NonZeroU32;
 
 fn lacks_qpi(work_mode: WorkMode, qpi: bool) -> bool
@@ -14,23 +15,18 @@ fn lacks_qpi(work_mode: WorkMode, qpi: bool) -> bool
 }
 
 // 3, 4, 5 or 7, in this order; else the limit.
-#[tactic(auto, unfolding(crate::specs::Call::refusal))]
-pub fn refused(
-    mode: Mode,
-    instance: u32,
-    work_mode: WorkMode,
-    qpi: bool,
-    limit: u32,
-) -> Result<NonZeroU32, QspiError>
-    ensures { Refuses limit (refusal mode instance work_mode qpi limit) result }
+#[tactic(auto, unfolding(crate::specs::Call::opening_refusal))]
+pub fn refused(limit: u32, opening: Opening) -> Result<NonZeroU32, QspiError>
+    ensures { Refuses limit (opening_refusal opening limit) result }
 {
-    if !mode.is_supported() {
+    let config = opening.config;
+    if !config.mode.is_supported() {
         return Err(QspiError::SpiMode);
     }
-    if instance > 3 {
+    if opening.instance > 3 {
         return Err(QspiError::Instance);
     }
-    if lacks_qpi(work_mode, qpi) {
+    if lacks_qpi(config.work_mode, opening.qpi) {
         return Err(QspiError::Qpi);
     }
     NonZeroU32::new(limit).ok_or(QspiError::Limit)

@@ -3,6 +3,7 @@ use super::failure::Failure;
 use super::fields::Fields;
 use super::text::logged;
 use config_numbers::ConfigNumbers;
+use opening::{ClockTree, Opening};
 use std::alloc::Global;
 use std::io::Write;
 
@@ -27,17 +28,23 @@ fn settings(f: &mut Fields<'_>) -> Result<ConfigNumbers, Failure> {
 pub fn open(alloc: Global, mut f: Fields<'_>) -> Result<Vec<u8>, Failure> {
     let instance = f.number()?;
     let found = settings(&mut f)?.config();
-    let pll_hz = f.number()?;
-    let osc_hz = f.number()?;
+    let clock_tree = ClockTree {
+        pll_fra0: f.number()?,
+        osc_24m: f.number()?,
+    };
     let qpi = f.flag()?;
+    let found = found.map(|config| Opening {
+        instance,
+        qpi,
+        config,
+        clock_tree,
+    });
     let limit = f.number()?;
     let words = f.number()?;
     let answers = f.list()?;
     let mut hz = 0;
     let mut out = logged(alloc, words, |log| {
-        let opened = numbered::open_found(
-            instance, qpi, limit, log, answers, found, pll_hz, osc_hz,
-        );
+        let opened = numbered::open_found(limit, log, answers, found);
         hz = opened.sck_hz.unwrap_or(0);
         opened.progress
     })?;

@@ -6,7 +6,7 @@ pub returns-in-Err : goal.returns-in-Err
 returns-in-Err c = refused_opens _ _ _ _ c.in-Err.ensures c.refused-in-Err.ensures
 
 pub new-ended-requires : goal.new-ended-requires
-new-ended-requires c = accepted _ _ _ _ _ c.in-Ok.ensures.is refl
+new-ended-requires c = accepted c.args.opening _ c.in-Ok.ensures.is refl
 
 pub returns : goal.returns
 returns c =
