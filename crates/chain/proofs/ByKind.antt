@@ -20,6 +20,7 @@ use Rattle.records.specs.Check.{field, extents_fault}
 use Rattle.records.specs.Record.{records_of, record_of, windows_of}
 use Rattle.records.proofs.KindLaws.{AllIn, all_in}
 use Rattle.chain.specs.Chain.{mode_steps, kind_steps, record_steps}
+use Rattle.chain.specs.Transaction.{Request}
 use Rattle.chain.specs.Of.{steps_of, Fits}
 
 -- A record of the kind k runs that kind's steps.
@@ -31,26 +32,26 @@ pub by_kind : (rate : ℕ) (qpi : Bool) (r : List ℕ) (k : ℕ) {limit : ℕ} {
 unfolding record_steps
 by_kind rate qpi r k e d = rw e d
 
-module _ (rate : ℕ) (qpi : Bool) where
+module _ (c : Request) where
   -- if a record is made, it has these steps
   abbrev Has : Option Record → Steps → Type 0
-  Has o s = (r : Record) → o ≡ Some r → s ≡ steps_of rate qpi r
+  Has o s = (r : Record) → o ≡ Some r → s ≡ steps_of c r
 
-  has : (t : Record) → Has (Some t) (steps_of rate qpi t)
-  has t r e = ap (steps_of rate qpi) (same_Some _ _ e)
+  has : (t : Record) → Has (Some t) (steps_of c t)
+  has t r e = ap (steps_of c) (same_Some _ _ e)
 
   none_has : (s : Steps) → Has None s
   none_has s r e = absurd (none-some r e)
 
-  mode_has : (o : Option WorkMode) → Has (option_map Mode o) (mode_steps qpi o)
+  mode_has : (o : Option WorkMode) → Has (option_map Mode o) (mode_steps c.qpi o)
   mode_has (Some mode) = has (Mode mode)
   mode_has None = none_has _
 
-  quad_has : (b : Bool) (t : Record) → Has (cond b (Some t) None) (steps_of rate qpi t)
+  quad_has : (b : Bool) (t : Record) → Has (cond b (Some t) None) (steps_of c t)
   quad_has true t = has t
   quad_has false t = none_has _
 
-  kind_has : (f : ℕ → ℕ) (k : ℕ) → Has (get_or (records_of f) k None) (get_or (kind_steps rate qpi f) k (end done))
+  kind_has : (f : ℕ → ℕ) (k : ℕ) → Has (get_or (records_of f) k None) (get_or (kind_steps c.rate c.qpi f) k (end done))
   kind_has f zero = none_has _
   kind_has f (suc zero) = has _
   kind_has f (suc (suc zero)) = has _
@@ -63,10 +64,10 @@ module _ (rate : ℕ) (qpi : Bool) where
   kind_has f (suc (suc (suc (suc (suc (suc (suc (suc (suc zero))))))))) = has _
   kind_has f (suc (suc (suc (suc (suc (suc (suc (suc (suc (suc n)))))))))) = none_has _
 
-pub stated_steps : (rate : ℕ) (qpi : Bool) (words : List ℕ) (r : Record) → record_of words ≡ Some r
-    → record_steps rate qpi words ≡ steps_of rate qpi r
+pub stated_steps : (c : Request) (words : List ℕ) (r : Record) → record_of words ≡ Some r
+    → record_steps c.rate c.qpi words ≡ steps_of c r
 unfolding record_steps record_of
-stated_steps rate qpi words r e = kind_has rate qpi (field words) (field words 0) r e
+stated_steps c words r e = kind_has c (field words) (field words 0) r e
 
 module _ (memory : ℕ) where
   -- if a record is made, its windows fit the memory that they lie in

@@ -27,6 +27,7 @@ use Rattle.records.proofs.KindLaws.{stated}
 use Rattle.records.specs.Check.{record_at, next_of, Checked, fault, ahead, along, records_in, checked, verdict, chain_of}
 use Rattle.records.proofs.WalkLaws.{fault_at, next_at, from, from_fault, from_last, from_on, passed, whole_empty, whole_from}
 use Rattle.chain.specs.Chain.{record_steps, chain_steps}
+use Rattle.chain.specs.Transaction.{Request}
 use Rattle.chain.specs.Of.{steps_of, Fits}
 use Rattle.chain.proofs.ByKind.{stated_steps, stated_fits}
 
@@ -35,7 +36,7 @@ faults : Result (Unit {0}) Fault → ℕ
 faults (Err f) = 1
 faults (Ok done) = 0
 
-not_fine : (f : Fault) → ◌≡◌ {A = Result (Unit {0}) Fault} (Err f) (Ok tt) → ⊥
+pub not_fine : (f : Fault) → ◌≡◌ {A = Result (Unit {0}) Fault} (Err f) (Ok tt) → ⊥
 unfolding faults
 not_fine f e = omega (arith, ap faults e)
 
@@ -54,84 +55,84 @@ chain_ahead : (r : List ℕ) (c : Checked) → verdict c ≡ Ok tt → chain_of 
 chain_ahead r (Err f) e = absurd (not_fine f e)
 chain_ahead r (Ok rs) e = refl
 
-module _ (hz : ℕ) (qpi : Bool) (highest : ℕ) (ws : List ℕ) where
+module _ (c : Request) where
   pub record Running (limit : ℕ) (answers : List ℕ) (p : Progress) (log m : List ℕ) (r : Progress) (log' m' : List ℕ) (own : ℕ) : Type 0 where
     pub same : length m' ≡ length m
     pub one : 1 ≤ own
-    pub most : own ≤ length ws / 8
-    pub fine : verdict (from highest (length m) ws own) ≡ Ok tt
+    pub most : own ≤ length c.words / 8
+    pub fine : verdict (from c.highest (length m) c.words own) ≡ Ok tt
     pub sound : Sound r
     pub state :
-        advance (chain_steps hz qpi (chain_of (checked highest (length m) ws))) limit answers (state_of p log m)
-        ≡ advance (chain_steps hz qpi (chain_of (from highest (length m) ws own))) limit answers (state_of r log' m')
+        advance (chain_steps c.rate c.qpi (chain_of (checked c.highest (length m) c.words))) limit answers (state_of p log m)
+        ≡ advance (chain_steps c.rate c.qpi (chain_of (from c.highest (length m) c.words own))) limit answers (state_of r log' m')
 
   module _ {limit : ℕ} {answers : List ℕ} {p : Progress} {log m : List ℕ} where
-    pub running_none : verdict (checked highest (length m) ws) ≡ Ok tt → length ws / 8 ≡ 0 → Sound p
-        → Runs (chain_steps hz qpi (chain_of (checked highest (length m) ws))) limit answers p log m p log m
+    pub running_none : verdict (checked c.highest (length m) c.words) ≡ Ok tt → length c.words / 8 ≡ 0 → Sound p
+        → Runs (chain_steps c.rate c.qpi (chain_of (checked c.highest (length m) c.words))) limit answers p log m p log m
     unfolding chain_steps
     running_none f z few =
-        rw (whole_empty highest (length m) ws (fine_eight highest (length m) ws f) z)
+        rw (whole_empty c.highest (length m) c.words (fine_eight c.highest (length m) c.words f) z)
         (record { sound = few; state = sym (ended limit answers (state_of p log m)) })
 
-    pub running_starts : verdict (checked highest (length m) ws) ≡ Ok tt → 1 ≤ length ws / 8 → Sound p
+    pub running_starts : verdict (checked c.highest (length m) c.words) ≡ Ok tt → 1 ≤ length c.words / 8 → Sound p
         → Running limit answers p log m p log m 1
     running_starts f h few =
-        let w = whole_from highest (length m) ws (fine_eight highest (length m) ws f) in
+        let w = whole_from c.highest (length m) c.words (fine_eight c.highest (length m) c.words f) in
         record { same = refl; one = omega arith; most = h; fine = ap verdict (sym w) ∙ f; sound = few; state = rw w refl }
 
   module _ {limit : ℕ} {answers : List ℕ} {p r : Progress} {log m log' m' : List ℕ} {own : ℕ} (on : Running limit answers p log m r log' m' own) where
     -- the record has no fault
-    no_fault : fault_at highest (length m) ws own ≡ Ok tt
-    no_fault = by (fault_at highest (length m) ws own) refl
+    no_fault : fault_at c.highest (length m) c.words own ≡ Ok tt
+    no_fault = by (fault_at c.highest (length m) c.words own) refl
       where
-        by : (a : Result (Unit {0}) QspiError) → fault_at highest (length m) ws own ≡ a
-            → fault_at highest (length m) ws own ≡ Ok tt
+        by : (a : Result (Unit {0}) QspiError) → fault_at c.highest (length m) c.words own ≡ a
+            → fault_at c.highest (length m) c.words own ≡ Ok tt
         by (Ok done) e = e
         by (Err f) e = absurd (not_fine (fault f own)
-            (ap verdict (sym (from_fault highest (length m) ws own f on.one on.most e)) ∙ on.fine))
+            (ap verdict (sym (from_fault c.highest (length m) c.words own f on.one on.most e)) ∙ on.fine))
 
     -- what the code makes of it is a record whose windows lie in the memory
-    pub stated_on : {rec : List ℕ} → rec ≡ record_at ws own
+    pub stated_on : {rec : List ℕ} → rec ≡ record_at c.words own
         → (s : Record) × (record_of rec ≡ Some s) × Fits (length m') s
     stated_on e =
-        let s = stated highest (length m) (length ws / 8) own (record_at ws own) no_fault in
-        rw (on.same, e) (s.0, s.1, stated_fits (length m) (record_at ws own) s.0 s.1 s.2)
+        let s = stated c.highest (length m) (length c.words / 8) own (record_at c.words own) no_fault in
+        rw (on.same, e) (s.0, s.1, stated_fits (length m) (record_at c.words own) s.0 s.1 s.2)
 
-    module _ {rec : List ℕ} {t : Progress} {log'' m'' : List ℕ} (e : rec ≡ record_at ws own) (d : Runs (record_steps hz qpi rec) limit answers r log' m' t log'' m'') where
+    module _ {rec : List ℕ} {t : Progress} {log'' m'' : List ℕ} (e : rec ≡ record_at c.words own) (d : Runs (record_steps c.rate c.qpi rec) limit answers r log' m' t log'' m'') where
       -- once the record is run, what is left are the records behind it
-      behind : (rs : List (List ℕ)) → chain_of (from highest (length m) ws own) ≡ record_at ws own ∷ rs
-          → advance (chain_steps hz qpi (chain_of (checked highest (length m) ws))) limit answers (state_of p log m)
-          ≡ advance (chain_steps hz qpi rs) limit answers (state_of t log'' m'')
+      behind : (rs : List (List ℕ)) → chain_of (from c.highest (length m) c.words own) ≡ record_at c.words own ∷ rs
+          → advance (chain_steps c.rate c.qpi (chain_of (checked c.highest (length m) c.words))) limit answers (state_of p log m)
+          ≡ advance (chain_steps c.rate c.qpi rs) limit answers (state_of t log'' m'')
       unfolding chain_steps
       behind rs q =
-          onto _ _ limit answers (state_of r log' m') (on.state ∙ ap (λ c. advance (chain_steps hz qpi c) limit answers (state_of r log' m')) q)
+          onto _ _ limit answers (state_of r log' m') (on.state ∙ ap (λ rs. advance (chain_steps c.rate c.qpi rs) limit answers (state_of r log' m')) q)
           (rw e at d.state)
 
-      last : next_of rec ≡ 0 → chain_of (from highest (length m) ws own) ≡ record_at ws own ∷ []
-      last z = ap chain_of (from_last highest (length m) ws own on.one on.most no_fault (rw e at z))
+      last : next_of rec ≡ 0 → chain_of (from c.highest (length m) c.words own) ≡ record_at c.words own ∷ []
+      last z = ap chain_of (from_last c.highest (length m) c.words own on.one on.most no_fault (rw e at z))
 
-      further : (next_of rec ≡ 0 → ⊥) → (own < next_of rec) × (next_of rec ≤ length ws / 8)
-          × (verdict (from highest (length m) ws (next_of rec)) ≡ Ok tt)
-          × (chain_of (from highest (length m) ws own) ≡ record_at ws own ∷ chain_of (from highest (length m) ws (next_of rec)))
+      further : (next_of rec ≡ 0 → ⊥) → (own < next_of rec) × (next_of rec ≤ length c.words / 8)
+          × (verdict (from c.highest (length m) c.words (next_of rec)) ≡ Ok tt)
+          × (chain_of (from c.highest (length m) c.words own) ≡ record_at c.words own ∷ chain_of (from c.highest (length m) c.words (next_of rec)))
       further n =
-          let f = from_on highest (length m) ws own on.one on.most no_fault (λ z. n (ap next_of e ∙ z)) in
-          let rest = from highest (length m) ws (next_at highest (length m) ws own) in
-          let fine : verdict rest ≡ Ok tt = sym (ap verdict f.2 ∙ passed (record_at ws own) rest) ∙ on.fine in
-          rw e (f.0, f.1, fine, ap chain_of f.2 ∙ chain_ahead (record_at ws own) rest fine)
+          let f = from_on c.highest (length m) c.words own on.one on.most no_fault (λ z. n (ap next_of e ∙ z)) in
+          let rest = from c.highest (length m) c.words (next_at c.highest (length m) c.words own) in
+          let fine : verdict rest ≡ Ok tt = sym (ap verdict f.2 ∙ passed (record_at c.words own) rest) ∙ on.fine in
+          rw e (f.0, f.1, fine, ap chain_of f.2 ∙ chain_ahead (record_at c.words own) rest fine)
 
       pub running_stops : (number_in t ≡ 0 → ⊥)
-          → Runs (chain_steps hz qpi (chain_of (checked highest (length m) ws))) limit answers p log m t log'' m''
+          → Runs (chain_steps c.rate c.qpi (chain_of (checked c.highest (length m) c.words))) limit answers p log m t log'' m''
       running_stops n = record { sound = d.sound; state = sym (by (next_of rec) refl) }
         where
-          by : (k : ℕ) → next_of rec ≡ k → advance (chain_steps hz qpi (chain_of (checked highest (length m) ws))) limit answers (state_of p log m) ≡ state_of t log'' m''
+          by : (k : ℕ) → next_of rec ≡ k → advance (chain_steps c.rate c.qpi (chain_of (checked c.highest (length m) c.words))) limit answers (state_of p log m) ≡ state_of t log'' m''
           by zero z = behind [] (last z) ∙ skipped _ limit answers (state_of t log'' m'') n
           by (suc k) z = behind _ (further (λ w. omega (arith, z, w))).3 ∙ skipped _ limit answers (state_of t log'' m'') n
 
-      pub running_ends : next_of rec ≡ 0 → Runs (chain_steps hz qpi (chain_of (checked highest (length m) ws))) limit answers p log m t log'' m''
+      pub running_ends : next_of rec ≡ 0 → Runs (chain_steps c.rate c.qpi (chain_of (checked c.highest (length m) c.words))) limit answers p log m t log'' m''
       unfolding chain_steps
       running_ends z = record { sound = d.sound; state = sym (behind [] (last z) ∙ ended limit answers (state_of t log'' m'')) }
 
-      pub running_less : (next_of rec ≡ 0 → ⊥) → length ws / 8 - next_of rec < length ws / 8 - own
+      pub running_less : (next_of rec ≡ 0 → ⊥) → length c.words / 8 - next_of rec < length c.words / 8 - own
       running_less n = let f = further n in omega (arith, f.0, f.1)
 
       pub running_on : (next_of rec ≡ 0 → ⊥) → length m'' ≡ length m' → Running limit answers p log m t log'' m'' (next_of rec)
@@ -147,57 +148,57 @@ module _ (hz : ℕ) (qpi : Bool) (highest : ℕ) (ws : List ℕ) where
           }
 
 -- The same at a register block.
-module _ (rate : ℕ) (qpi : Bool) (highest : ℕ) (ws : List ℕ) where
+module _ (c : Request) where
   pub record RunningOn (b : RegisterBlock) (m : List ℕ) (r : RegisterBlock) (m' : List ℕ) (own : ℕ) : Type 0 where
     pub lent : Lent b r
     pub runs :
-        Running rate qpi highest ws (non_zero_u32_get b.limit) b.answers.words.now (progress_of (Ok tt) b) b.log.now m
+        Running c (non_zero_u32_get b.limit) b.answers.words.now (progress_of (Ok tt) b) b.log.now m
         (progress_of (Ok tt) r) r.log.now m' own
 
-  pub none_on : (b : RegisterBlock) (m : List ℕ) → verdict (checked highest (length m) ws) ≡ Ok tt → length ws / 8 ≡ 0
-      → GoesOn (chain_steps rate qpi (chain_of (checked highest (length m) ws))) b m b m (Ok tt)
-  none_on b m f z = record { lent = lent_same b; runs = running_none rate qpi highest ws f z b.sound }
+  pub none_on : (b : RegisterBlock) (m : List ℕ) → verdict (checked c.highest (length m) c.words) ≡ Ok tt → length c.words / 8 ≡ 0
+      → GoesOn (chain_steps c.rate c.qpi (chain_of (checked c.highest (length m) c.words))) b m b m (Ok tt)
+  none_on b m f z = record { lent = lent_same b; runs = running_none c f z b.sound }
 
-  pub starts_on : (b : RegisterBlock) (m : List ℕ) → verdict (checked highest (length m) ws) ≡ Ok tt → 1 ≤ length ws / 8
+  pub starts_on : (b : RegisterBlock) (m : List ℕ) → verdict (checked c.highest (length m) c.words) ≡ Ok tt → 1 ≤ length c.words / 8
       → RunningOn b m b m 1
-  starts_on b m f h = record { lent = lent_same b; runs = running_starts rate qpi highest ws f h b.sound }
+  starts_on b m f h = record { lent = lent_same b; runs = running_starts c f h b.sound }
 
-  pub made_on : {b r : RegisterBlock} {m m' rec : List ℕ} {own : ℕ} → RunningOn b m r m' own → rec ≡ record_at ws own
+  pub made_on : {b r : RegisterBlock} {m m' rec : List ℕ} {own : ℕ} → RunningOn b m r m' own → rec ≡ record_at c.words own
       → (s : Record) × (record_of rec ≡ Some s) × Fits (length m') s
-  made_on on e = stated_on rate qpi highest ws on.runs e
+  made_on on e = stated_on c on.runs e
 
   module _ {b r : RegisterBlock} {m m' : List ℕ} {own : ℕ} (on : RunningOn b m r m' own) {rec : List ℕ}
-      (e : rec ≡ record_at ws own)
+      (e : rec ≡ record_at c.words own)
       {s : Record} (h : record_of rec ≡ Some s) {t : RegisterBlock} {m'' : List ℕ} where
-    ran : {a : Result (Unit {0}) QspiError} → GoesOn (steps_of rate qpi s) r m' t m'' a
-        → Runs (record_steps rate qpi rec) (non_zero_u32_get b.limit) b.answers.words.now (progress_of (Ok tt) r)
+    ran : {a : Result (Unit {0}) QspiError} → GoesOn (steps_of c s) r m' t m'' a
+        → Runs (record_steps c.rate c.qpi rec) (non_zero_u32_get b.limit) b.answers.words.now (progress_of (Ok tt) r)
         r.log.now m' (progress_of a t) t.log.now m''
-    ran d = rw (stated_steps rate qpi rec s h) (rw (on.lent.answers, on.lent.limit) at d.runs)
+    ran d = rw (stated_steps c rec s h) (rw (on.lent.answers, on.lent.limit) at d.runs)
 
-    pub stops_on : {a : QspiError} → GoesOn (steps_of rate qpi s) r m' t m'' (Err a)
-        → GoesOn (chain_steps rate qpi (chain_of (checked highest (length m) ws))) b m t m'' (Err a)
+    pub stops_on : {a : QspiError} → GoesOn (steps_of c s) r m' t m'' (Err a)
+        → GoesOn (chain_steps c.rate c.qpi (chain_of (checked c.highest (length m) c.words))) b m t m'' (Err a)
     stops_on {a} d =
         record {
           lent = lent_then on.lent d.lent;
-          runs = running_stops rate qpi highest ws on.runs e (ran d) (error_ne0 a);
+          runs = running_stops c on.runs e (ran d) (error_ne0 a);
         }
 
-    pub ends_on : GoesOn (steps_of rate qpi s) r m' t m'' (Ok tt) → next_of rec ≡ 0
-        → GoesOn (chain_steps rate qpi (chain_of (checked highest (length m) ws))) b m t m'' (Ok tt)
+    pub ends_on : GoesOn (steps_of c s) r m' t m'' (Ok tt) → next_of rec ≡ 0
+        → GoesOn (chain_steps c.rate c.qpi (chain_of (checked c.highest (length m) c.words))) b m t m'' (Ok tt)
     ends_on d z =
         record {
           lent = lent_then on.lent d.lent;
-          runs = running_ends rate qpi highest ws on.runs e (ran d) z;
+          runs = running_ends c on.runs e (ran d) z;
         }
 
-    pub less_on : GoesOn (steps_of rate qpi s) r m' t m'' (Ok tt) → (next_of rec ≡ 0 → ⊥)
-        → length ws / 8 - next_of rec < length ws / 8 - own
-    less_on d n = running_less rate qpi highest ws on.runs e (ran d) n
+    pub less_on : GoesOn (steps_of c s) r m' t m'' (Ok tt) → (next_of rec ≡ 0 → ⊥)
+        → length c.words / 8 - next_of rec < length c.words / 8 - own
+    less_on d n = running_less c on.runs e (ran d) n
 
-    pub goes_further : GoesOn (steps_of rate qpi s) r m' t m'' (Ok tt) → (next_of rec ≡ 0 → ⊥) → length m'' ≡ length m'
+    pub goes_further : GoesOn (steps_of c s) r m' t m'' (Ok tt) → (next_of rec ≡ 0 → ⊥) → length m'' ≡ length m'
         → RunningOn b m t m'' (next_of rec)
     goes_further d n l =
         record {
           lent = lent_then on.lent d.lent;
-          runs = running_on rate qpi highest ws on.runs e (ran d) n l;
+          runs = running_on c on.runs e (ran d) n l;
         }

@@ -1,5 +1,5 @@
 -- What the code's values stand for in the definitions.
-use Rattle.std.specs.Prelude.{Bool, ℕ, ◌+◌, ◌^◌, ◌≤◌, ◌<◌}
+use Rattle.std.specs.Prelude.{ℕ, ◌+◌, ◌^◌, ◌≤◌, ◌<◌}
 use Rattle.model.specs.Wait.Cause.{start}
 use Rattle.model.specs.Steps.{Steps, pause, wait_for}
 use Rattle.qspi.specs.Phases.{rx_phase}
@@ -22,18 +22,18 @@ request_of r = record { rate = r.rate; qpi = r.qpi; highest = r.highest; words =
 abbrev pub found_in : code.Request → ℕ → Checked
 found_in r memory = checked r.highest memory r.words.now
 
--- the steps of a record
-abbrev pub steps_of : ℕ → Bool → Record → Steps
-steps_of rate qpi (Write w) = write_window w.start w.size
-steps_of rate qpi (Read w) = rx_phase w.start w.size
-steps_of rate qpi (Transfer read write) = transfer_windows read.start read.size write.start write.size
-steps_of rate qpi (TransferInPlace w) = in_place_steps w.start w.size
-steps_of rate qpi (Delay ns) = pause (delay_cycles ns)
-steps_of rate qpi Flush = wait_for start
-steps_of rate qpi (Mode mode) = work_mode_steps qpi mode
-steps_of rate qpi (QuadRead command tclqv margin w) =
-    read_quad_windows rate command.start command.size tclqv margin w.start w.size
-steps_of rate qpi (QuadWrite command w) = write_quad_windows command.start command.size w.start w.size
+-- the steps of a record of a request
+abbrev pub steps_of : Request → Record → Steps
+steps_of c (Write w) = write_window w.start w.size
+steps_of c (Read w) = rx_phase w.start w.size
+steps_of c (Transfer read write) = transfer_windows read.start read.size write.start write.size
+steps_of c (TransferInPlace w) = in_place_steps w.start w.size
+steps_of c (Delay ns) = pause (delay_cycles ns)
+steps_of c Flush = wait_for start
+steps_of c (Mode mode) = work_mode_steps c.qpi mode
+steps_of c (QuadRead command tclqv margin w) =
+    read_quad_windows c.rate command.start command.size tclqv margin w.start w.size
+steps_of c (QuadWrite command w) = write_quad_windows command.start command.size w.start w.size
 
 -- a window in a memory of that length, and one that is a phase's
 abbrev pub Within : ℕ → Extent → Type 0

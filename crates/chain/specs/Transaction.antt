@@ -1,14 +1,26 @@
 -- What a transaction, or a sheet's chain, gives its user for every input (document 01, "Transaction").
-use Rattle.std.specs.Prelude.{◌≡◌, Bool, false, List, ℕ, length}
+use Rattle.std.specs.Prelude.{◌≡◌, Bool, false, cond, eqb, List, ℕ, length, Result, Ok, Err, IfOk}
+use Rattle.std.specs.Int.NonZero.{non_zero_u32_get}
+use Rattle.std.specs.declared.num.NonZeroU32.{NonZeroU32}
 use Rattle.model.specs.State.{State, limit_first, called}
 use Rattle.access.specs.declared.progress.Progress.{Progress}
 use Rattle.access.specs.Of.{state_of}
-use Rattle.records.specs.Check.{Checked, checked, verdict, number_of, chain_of}
+use Rattle.config.specs.declared.error.QspiError.TheVariants.{Limit}
+use Rattle.records.specs.declared.Fault.{Fault}
+use Rattle.records.specs.Check.{Checked, checked, fault, verdict, number_of, chain_of}
 use Rattle.chain.specs.Chain.{chain_steps}
 
--- 7, then the first fault along the chain
+-- what the check finds: 7, at no record, then the first fault along the chain
+unfoldable pub first_fault : ℕ → Checked → Result (Unit {0}) Fault
+first_fault limit c = cond (eqb limit 0) (Err (fault Limit 0)) (verdict c)
+
+-- by which number a chain is refused, or 0
 unfoldable pub refusal : ℕ → Checked → ℕ
 refusal limit c = limit_first limit (number_of (verdict c))
+
+-- It is the number of what the check finds.
+abbrev pub FaultNumber : Type 0
+FaultNumber = (limit : ℕ) (c : Checked) → number_of (first_fault limit c) ≡ refusal limit c
 
 -- what is to be run: the words of all records, in which `checked` finds document 01's *chain*, the highest kind that is taken, the rate of the
 -- bus, and whether its chip has QPI
@@ -23,6 +35,16 @@ unfoldable pub outcome : Request → ℕ → List ℕ → List ℕ → List ℕ 
 outcome c limit answers log m =
     let found = checked c.highest (length m) c.words in
     called (refusal limit found) (chain_steps c.rate c.qpi (chain_of found)) limit answers log m
+
+-- what the answer of a check says of faults
+abbrev pub finding : {T : Type 0} → Result T Fault → Result (Unit {0}) Fault
+finding (Ok x) = Ok tt
+finding (Err f) = Err f
+
+-- Answered by that fault; where there is none, the limit stands.
+pub record Checks (limit : ℕ) (found : Result (Unit {0}) Fault) (answer : Result NonZeroU32 Fault) : Type 0 where
+  pub is : finding answer ≡ found
+  pub limited : IfOk answer (λ n. non_zero_u32_get n ≡ limit)
 
 pub record Transacts (c : Request) (limit : ℕ) (answers log m : List ℕ) (r : Progress) (log' m' : List ℕ) : Type 0 where
   pub state : state_of r log' m' ≡ outcome c limit answers log m

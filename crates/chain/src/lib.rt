@@ -1,18 +1,18 @@
-// Chains of records, checked whole and then run.
+// Chains of records: checked whole, and run once they are.
 #![tactic(auto)]
 
 ghost use Rattle.std.specs.Prelude.{◌≡◌, Ok, length};
+ghost use Rattle.std.specs.Int.NonZero.{non_zero_u32_get};
 ghost use Rattle.records.specs.Check.{checked, verdict, chain_of};
-ghost use Rattle.access.specs.Of.{Refuses};
 ghost use Rattle.access.specs.Goes.{GoesOn};
 ghost use Rattle.chain.specs.Chain.{chain_steps};
-ghost use Rattle.chain.specs.Transaction.{refusal, Transacts};
+ghost use Rattle.chain.specs.Transaction.{first_fault, Checks, Transacts};
 ghost use Rattle.chain.specs.Transaction.{transaction as Transaction·transaction};
 ghost use Rattle.chain.specs.Of.{request_of, found_in};
 
 use access::{Progress, RegisterBlock};
 use config::QspiError;
-use records::Record;
+use records::{Fault, Record};
 use std::num::NonZeroU32;
 
 pub mod record;
@@ -20,7 +20,7 @@ pub mod request;
 
 pub use request::Request;
 
-// Runs a chain in which no fault was found.
+// Goes along a chain in which no fault was found, and runs each record.
 fn run_chain(
     block: &mut RegisterBlock<'_>,
     memory: &mut [u8],
@@ -37,7 +37,7 @@ fn run_chain(
     loop {
         let r = records::record_at(words, own);
         let record = Record::of(r).unwrap();
-        record::run_record(block, memory, request.rate, request.qpi, record)?;
+        record::run_record(block, memory, request, record)?;
         let next = r[7] as usize;
         if next == 0 {
             return Ok(());
@@ -46,17 +46,36 @@ fn run_chain(
     }
 }
 
-// 7, then the first fault along the chain; else the limit.
-fn refused(limit: u32, request: Request<'_>, memory: usize) -> Result<NonZeroU32, QspiError>
-    ensures { Refuses limit (refusal limit (found_in request.entry memory)) result }
+// The check of a chain, which runs nothing: 7, at no record, then the first fault along the chain; else the limit.
+pub fn check(limit: u32, request: Request<'_>, memory: usize) -> Result<NonZeroU32, Fault>
+    ensures { Checks limit (first_fault limit (found_in request.entry memory)) result }
 {
     let Some(limit) = NonZeroU32::new(limit) else {
-        return Err(QspiError::Limit);
+        return Err(Fault {
+            error: QspiError::Limit,
+            record: 0,
+        });
     };
     match records::check(request.words, request.highest, memory) {
         Ok(()) => Ok(limit),
-        Err(fault) => Err(fault.error),
+        Err(fault) => Err(fault),
     }
+}
+
+// The run of a chain in which the check found nothing.
+pub fn run(
+    limit: NonZeroU32,
+    log: &mut [u32],
+    answers: &[u32],
+    memory: &mut [u8],
+    request: Request<'_>,
+) -> Progress
+    requires { first_fault (non_zero_u32_get limit) (found_in request (length memory.old)) ≡ Ok tt }
+    ensures { Transacts (request_of request.entry) (non_zero_u32_get limit) answers.now log.old memory.old result log.new memory.new }
+{
+    let mut block = RegisterBlock::new(limit, log, answers);
+    let ended = run_chain(&mut block, memory, request);
+    block.progress(ended)
 }
 
 // A chain: the whole of it is checked before any access.
@@ -69,13 +88,10 @@ pub fn transact(
 ) -> Progress
     ensures { Transacts (request_of request.entry) limit answers.now log.old memory.old result log.new memory.new }
 {
-    let limit = match refused(limit, request, memory.len()) {
-        Ok(limit) => limit,
-        Err(error) => return Progress::refused(error),
-    };
-    let mut block = RegisterBlock::new(limit, log, answers);
-    let ended = run_chain(&mut block, memory, request);
-    block.progress(ended)
+    match check(limit, request, memory.len()) {
+        Ok(limit) => run(limit, log, answers, memory, request),
+        Err(fault) => Progress::refused(fault.error),
+    }
 }
 
 // Operations on the lent memory, one after the other: a chain of kinds 1 to 5.

@@ -2,8 +2,9 @@
 ghost use Rattle.std.specs.Prelude.{◌≡◌, length};
 ghost use Rattle.access.specs.Goes.{GoesOn};
 ghost use Rattle.chain.specs.Chain.{delay_cycles};
-ghost use Rattle.chain.specs.Of.{steps_of, Fits};
+ghost use Rattle.chain.specs.Of.{request_of, steps_of, Fits};
 
+use super::request::Request;
 use access::{Act, RegisterBlock};
 use config::QspiError;
 use records::{Extent, Record};
@@ -25,18 +26,17 @@ fn span(w: Extent) -> Span
     }
 }
 
-// Runs a record in which no fault was found. `hz`: the rate of the bus; `qpi`: the chip has QPI.
+// Runs a record of the request, in which no fault was found.
 pub fn run_record(
     block: &mut RegisterBlock<'_>,
     memory: &mut [u8],
-    hz: u32,
-    qpi: bool,
-    record: Record,
+    request: Request<'_>,
+    r: Record,
 ) -> Result<(), QspiError>
-    requires { Fits (length memory.old) «record» }
-    ensures { GoesOn (steps_of hz qpi «record») block.old memory.old block.new memory.new result }
+    requires { Fits (length memory.old) r }
+    ensures { GoesOn (steps_of (request_of request.entry) r) block.old memory.old block.new memory.new result }
 {
-    match record {
+    match r {
         Record::Write(w) => windows::write(block, memory, span(w)),
         Record::Read(w) => windows::read(block, memory, span(w)),
         Record::Transfer { read, write } => {
@@ -45,13 +45,21 @@ pub fn run_record(
         Record::TransferInPlace(w) => windows::transfer_in_place(block, memory, span(w)),
         Record::Delay { ns } => block.perform(Act::Delay(delay_cycles(ns))),
         Record::Flush => waits::wait_transfer_done(block),
-        Record::Mode(mode) => mode::set_work_mode(block, qpi, mode),
+        Record::Mode(mode) => mode::set_work_mode(block, request.qpi, mode),
         Record::QuadRead {
             command,
             tclqv,
             margin,
             data,
-        } => windows::read_quad(block, memory, hz, span(command), tclqv, margin, span(data)),
+        } => windows::read_quad(
+            block,
+            memory,
+            request.rate,
+            span(command),
+            tclqv,
+            margin,
+            span(data),
+        ),
         Record::QuadWrite { command, data } => {
             windows::write_quad(block, memory, span(command), span(data))
         }

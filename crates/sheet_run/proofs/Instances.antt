@@ -18,9 +18,9 @@ use Rattle.chain.specs.Transaction.{refusal, outcome}
 use Rattle.chain.proofs.Instances.{hypotheses_met as met}
 use Rattle.sheet.specs.Sheet.{parse}
 use Rattle.sheet.proofs.WordLaws.{all_below, below_by}
-use Rattle.sheet_run.specs.Run.{sheet_outcome, sheet_state}
+use Rattle.sheet_run.specs.Run.{sheet_fault, sheet_outcome, sheet_state}
 use Rattle.sheet_run.specs.Print.{end_state}
-use Rattle.sheet_run.specs.Laws.{Continued, sheet_refusal, flush_bytes, quad_bytes, HypothesesMet}
+use Rattle.sheet_run.specs.Laws.{Continued, flush_bytes, quad_bytes, HypothesesMet}
 
 -- a sheet with another limit and more answers, computed
 may_continue : (l : ℕ) (xs bs : List ℕ) → 0 < l → all_below 256 bs ≡ true → all_below (2 ^ 32) (l ∷ xs) ≡ true → length bs + 4 * length xs ≤ 65536 → Continued l xs bs
@@ -36,7 +36,7 @@ quads_end = met.unsupported
 pub hypotheses_met : HypothesesMet
 unfolding get_field head_of value_of answer_of answers_of receive words stored plus poll_tally tally_event tally_of then wait_for entered answered poll run room_of ran
     onward advance called out_of_range extents_fault windows_fault record_fault records_in along checked record_steps chain_steps refusal outcome parse sheet_outcome
-    sheet_state end_state sheet_refusal
+    sheet_state end_state sheet_fault
 hypotheses_met =
     record {
       ended = inl refl;

@@ -1,5 +1,5 @@
 -- A refused sheet, and the number that none gives.
-use mathlib.Core.Path.{◌≡◌, refl}
+use mathlib.Core.Path.{◌≡◌, refl, ◌∙◌}
 use mathlib.Core.List.{List, ◌++◌}
 use Prim.Native.Nat.{ℕ, ◌-◌, ◌≤◌}
 use native.Mathlib.Omega.{arith}
@@ -12,11 +12,11 @@ use Rattle.records.specs.Laws.{EachFault}
 use Rattle.records.proofs.Lengths.{never_6}
 use Rattle.chain.specs.Chain.{chain_steps}
 use Rattle.chain.specs.Transaction.{refusal, outcome}
-use Rattle.chain.proofs.Entry.{chain_refused}
+use Rattle.chain.proofs.Entry.{fault_number, chain_refused}
 use Rattle.sheet.specs.Sheet.{Sheet, Parsed, refused, sheet, parse, record_count, answer_count, memory_from}
 use Rattle.sheet.proofs.SheetLaws.{accepted_is, parsed}
-use Rattle.sheet_run.specs.Run.{chain_in, sheet_outcome, bytes_with, sheet_state}
-use Rattle.sheet_run.specs.Laws.{sheet_refusal, SheetRefused, SheetNever6}
+use Rattle.sheet_run.specs.Run.{chain_in, sheet_fault, sheet_outcome, bytes_with, sheet_state, state_with}
+use Rattle.sheet_run.specs.Laws.{sheet_refusal, OwnAnswers, SheetRefused, SheetNever6}
 
 -- what stands before the memory of a sheet, and the memory, are its bytes
 rejoined : (bs : List ℕ) (s : Sheet) → parse bs ≡ sheet s → take (length bs - length s.memory) bs ++ s.memory ≡ bs
@@ -30,13 +30,19 @@ rejoined bs s e =
     rw (← p.1, back) (take-append-drop k bs)
 
 pub refused_leaves : SheetRefused
-unfolding sheet_state sheet_outcome sheet_refusal
+unfolding sheet_state sheet_outcome sheet_fault
 refused_leaves bs log = by (parse bs) refl
   where
     by : (p : Parsed) → parse bs ≡ p → (sheet_refusal p ≡ 0 → ⊥)
         → with_memory (bytes_with bs p (sheet_outcome p log).memory) (sheet_outcome p log) ≡ with_number (sheet_refusal p) (begun log bs)
     by refused e i = refl
-    by (sheet s) e i = rw (chain_refused (chain_in s) s.limit s.answers log s.memory i, rejoined bs s e) refl
+    by (sheet s) e i =
+        let n = fault_number s.limit (checked 9 (length s.memory) s.records) in
+        rw (n, chain_refused (chain_in s) s.limit s.answers log s.memory (λ z. i (n ∙ z)), rejoined bs s e) refl
+
+pub own_answers : OwnAnswers
+unfolding state_with sheet_state
+own_answers s bs log e = rw e refl
 
 fault_never : (c : Checked) → EachFault (λ n. n ≡ 6 → ⊥) c → number_of (verdict c) ≡ 6 → ⊥
 fault_never (Err g) f e = f e

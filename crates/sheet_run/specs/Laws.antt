@@ -1,14 +1,12 @@
 -- Demand 3 for sheets as byte strings, and what a sheet never gives.
-use Rattle.std.specs.Prelude.{◌≡◌, None, List, [], ◌∷◌, ◌++◌, ℕ, ◌+◌, ◌*◌, ◌^◌, ◌≤◌, ◌<◌, length}
+use Rattle.std.specs.Prelude.{◌≡◌, List, [], ◌∷◌, ◌++◌, ℕ, ◌+◌, ◌*◌, ◌^◌, ◌≤◌, ◌<◌, length}
 use Rattle.model.specs.State.{begun, with_number}
 use Rattle.model.specs.Limit.{Ended, AgainCall}
 use Rattle.sheet.specs.Words.{spell, Below}
-use Rattle.records.specs.Check.{checked}
-use Rattle.chain.specs.Transaction.{refusal}
+use Rattle.records.specs.Check.{number_of}
 use Rattle.chain.specs.Laws.{quad_words, quad_answers}
-use Rattle.sheet.specs.Open.{number_of}
-use Rattle.sheet.specs.Sheet.{Parsed, refused, sheet, parse, continued_bytes}
-use Rattle.sheet_run.specs.Run.{sheet_outcome, sheet_state}
+use Rattle.sheet.specs.Sheet.{Sheet, Parsed, sheet, parse, continued_bytes}
+use Rattle.sheet_run.specs.Run.{sheet_fault, sheet_outcome, sheet_state, state_with}
 use Rattle.sheet_run.specs.Print.{end_state, printed_sheet}
 
 -- another limit word, from 1 up, and words to insert after the answers, with which the bytes are still at most 65,536
@@ -31,15 +29,18 @@ LinesAgain =
     (l : ℕ) (xs bs : List ℕ) → Continued l xs bs → Ended (end_state bs).number → (end_state bs).tally.longest < l
     → printed_sheet (continued_bytes l xs bs) ≡ printed_sheet bs
 
--- what a sheet is refused by, or 0: 13, which precedes the rest, then 7, then the first fault along its chain
-unfoldable pub sheet_refusal : Parsed → ℕ
-sheet_refusal refused = number_of None
-sheet_refusal (sheet s) = refusal s.limit (checked 9 (length s.memory) s.records)
+-- the number of what the check finds, or 0
+abbrev pub sheet_refusal : Parsed → ℕ
+sheet_refusal p = number_of (sheet_fault p)
 
 -- A refusal touches neither log nor bytes, and all counts are 0.
 abbrev pub SheetRefused : Type 0
 SheetRefused =
     (bs log : List ℕ) → (sheet_refusal (parse bs) ≡ 0 → ⊥) → sheet_state bs log ≡ with_number (sheet_refusal (parse bs)) (begun log bs)
+
+-- With its own answers in place of its own it is the sheet's run.
+abbrev pub OwnAnswers : Type 0
+OwnAnswers = (s : Sheet) (bs log : List ℕ) → parse bs ≡ sheet s → state_with s.answers bs log ≡ sheet_state bs log
 
 -- 6 is never given: no phase of a sheet is so long.
 abbrev pub SheetNever6 : Type 0

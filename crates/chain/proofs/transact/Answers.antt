@@ -1,13 +1,12 @@
-use mathlib.Core.Path.{refl}
-use Rattle.std.proofs.Common.{rules}
-use Rattle.chain.proofs.Entry.{accepted, refused_transacts, goes_transacts}
+use mathlib.Core.Path.{sym}
+use Rattle.chain.proofs.Entry.{refused_transacts}
 use Rattle.chain.proofs.transact.Goals as goal
 
+pub run-requires : goal.run-requires
+run-requires c = rw c.in-Ok.ensures.limited (sym c.in-Ok.ensures.is)
+
+pub returns-in-Ok : goal.returns-in-Ok
+returns-in-Ok c = rw c.in-Ok.ensures.limited at c.run.ensures
+
 pub returns-in-Err : goal.returns-in-Err
-returns-in-Err c = rw c.refused-in-Err.ensures (refused_transacts _ _ c.in-Err.ensures)
-
-pub run_chain-ended-requires : goal.run_chain-ended-requires
-run_chain-ended-requires c = (accepted _ _ _ c.in-Ok.ensures.is refl).1
-
-pub returns : goal.returns
-returns c = goes_transacts c.in-Ok.ensures c.new-block.ensures c.run_chain-ended.ensures c.progress.ensures (search rules)
+returns-in-Err c = rw c.refused.ensures (refused_transacts _ _ c.in-Err.ensures.is)

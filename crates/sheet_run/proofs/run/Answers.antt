@@ -1,6 +1,5 @@
-use mathlib.Core.Path.{sym, ◌∙◌}
-use Rattle.sheet_run.proofs.Sheets.{sheet_refused}
+use Rattle.sheet_run.proofs.Sheets.{refused_13}
 use Rattle.sheet_run.proofs.run.Goals as goal
 
-pub returns-in_default : goal.returns-in_default
-returns-in_default c = sheet_refused _ _ (sym c.open.ensures ∙ c.in_default.is) c.refused.ensures
+pub returns-in-Err : goal.returns-in-Err
+returns-in-Err c = refused_13 _ _ c.in-Err.ensures.value c.refused.ensures

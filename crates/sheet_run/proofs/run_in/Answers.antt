@@ -15,5 +15,5 @@ returns g c =
     let a = c.args.h.now.answers in
     let room = replicate g.row.N 0 in
     let e = read_words (n + a) room bs (simp length-replicate c.requires.room) c.fill.ensures in
-    sheet_runs bs _ c.args.h.now (heads bs _ c.requires.header)
-    (c.split_at.ensures.front ∙ held_front n a bs e) (c.split_at.ensures.back ∙ held_behind n a bs e) c.transact.ensures
+    sheet_runs bs c.args.h.now (heads bs _ c.requires.header) (c.split_at.ensures.front ∙ held_front n a bs e)
+    (rw c.request-request.ensures at c.transact.ensures) (c.split_at.ensures.back ∙ held_behind n a bs e)
