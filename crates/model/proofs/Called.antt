@@ -36,10 +36,11 @@ called_holds P refused s limit answers log m r a = by (eqb refused 0) refl
     by true e = a (eqb-true _ _ e)
     by false e = r (eqb-false refused 0 e)
 
-advance_met : (s : Steps) (limit : ℕ) (answers log m : List ℕ) → Met (advance s limit answers (begun log m)).number
+pub advance_met : (s : Steps) (limit : ℕ) (answers : List ℕ) (st : State) → st.number ≡ 0
+    → Met (advance s limit answers st).number
 unfolding advance ran
-advance_met s limit answers log m =
-    rw (starts (run s limit false) answers (begun log m) refl) (every_run_ends s limit (room_of (begun log m)) answers m).number
+advance_met s limit answers st z =
+    rw (starts (run s limit false) answers st z) (every_run_ends s limit (room_of st) _ st.memory).number
 
 pub every_call_ends : EveryCallEnds
 every_call_ends refused s limit answers log m =
@@ -51,7 +52,7 @@ every_call_ends refused s limit answers log m =
       number = refl;
       untouched = record { entries = refl; taken = refl; polls = refl; longest = refl; log = refl; memory = refl };
     }))
-    (λ z. inr (advance_met s limit answers log m))
+    (λ z. inr (advance_met s limit answers (begun log m) refl))
 
 pub others_touch_nothing : OthersTouchNothing
 others_touch_nothing refused s limit answers log m never =

@@ -14,5 +14,6 @@ pub mod Frame
 pub mod Kept
 pub mod Positions
 pub mod Polls
+pub mod From
 pub mod Settled
 pub mod Supported

@@ -8,6 +8,7 @@ pub mod State
 pub mod Limit
 pub mod Ends
 pub mod Called
+pub mod From
 pub mod Positions
 pub mod Polls
 pub mod Supported

@@ -57,7 +57,13 @@ advance s limit answers st = onward (run s limit false) answers st
 abbrev pub limit_first : ℕ → ℕ → ℕ
 limit_first limit other = cond (eqb limit 0) 7 other
 
--- A call as its user sees it (document 01: run): a refusal leaves counts of 0, and the log and the memory as they were; else the steps run from no entry on.
+-- A call from a state on. Once a number is not 0 nothing is done; a refusal sets the number and leaves all else as it
+-- stands; else the steps run from there.
+abbrev pub called_from : ℕ → Steps → ℕ → List ℕ → State → State
+called_from refused s limit answers st =
+    cond (eqb st.number 0) (cond (eqb refused 0) (advance s limit answers st) (with_number refused st)) st
+
+-- A call as its user sees it (document 01: run), from no entry on: so a refusal leaves counts of 0, and the log and the
+-- memory as they were.
 unfoldable pub called : ℕ → Steps → ℕ → List ℕ → List ℕ → List ℕ → State
-called refused s limit answers log m =
-    cond (eqb refused 0) (advance s limit answers (begun log m)) (with_number refused (begun log m))
+called refused s limit answers log m = called_from refused s limit answers (begun log m)
