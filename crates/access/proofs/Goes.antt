@@ -1,5 +1,4 @@
 -- What may wait has done, one after the other.
-use mathlib.Core.Path.{◌≡◌, refl, sym, ap, ◌∙◌}
 use mathlib.Core.List.{List}
 use Prim.Native.Nat.{ℕ}
 use Rattle.std.proofs.Common.{Bor, MutBor}
@@ -10,10 +9,11 @@ use Rattle.model.specs.Steps.{Steps, then}
 use Rattle.model.specs.Steps.End.{done}
 use Rattle.model.specs.Steps.Steps.{end}
 use Rattle.config.specs.declared.error.QspiError.{QspiError}
+use Rattle.access.specs.declared.progress.Progress.{Progress}
 use Rattle.access.specs.declared.block.RegisterBlock.{RegisterBlock}
-use Rattle.access.specs.Of.{begun}
+use Rattle.access.specs.Of.{with_ended}
 use Rattle.access.specs.Does.{Works, Gets, Runs}
-use Rattle.access.specs.Makes.{Begun, Makes, MakesOn, progress_at, progress_of}
+use Rattle.access.specs.Makes.{Resumed, Makes, MakesOn, progress_of}
 use Rattle.access.specs.Goes.{Goes, GoesOn}
 use Rattle.access.proofs.Sequence.{then_does, then_runs, stop_does, stop_runs, does_runs, nothing_done}
 use Rattle.access.proofs.Makes.{error_ne0, lent_then, lent_same}
@@ -64,9 +64,9 @@ module _ {b r : RegisterBlock} where
 pub nothing_goes : (b : RegisterBlock) → Goes (end done) b b (Ok tt)
 nothing_goes b = record { lent = lent_same b; does = nothing_done b.sound }
 
--- what was done from a block on whose call had begun
-pub begun_runs : {l : NonZeroU32} {log : MutBor (List ℕ)} {answers : Bor (List ℕ)} {b r : RegisterBlock} {s : Steps}
-    {m m' : List ℕ}
-    {e : Result (Unit {0}) QspiError} → Begun l log answers b → GoesOn s b m r m' e
-    → Runs s (non_zero_u32_get l) answers.now begun log.now m (progress_of e r) r.log.now m'
+-- what was done from a block on whose call had begun at the progress p
+pub begun_runs : {p : Progress} {l : NonZeroU32} {log : MutBor (List ℕ)} {answers : Bor (List ℕ)}
+    {b r : RegisterBlock} {s : Steps} {m m' : List ℕ}
+    {e : Result (Unit {0}) QspiError} → Resumed p l log answers b → GoesOn s b m r m' e
+    → Runs s (non_zero_u32_get l) answers.now (with_ended (Ok tt) p) log.now m (progress_of e r) r.log.now m'
 begun_runs b d = rw (b.log, b.entries, b.answers, b.tally, b.limit) at d.runs

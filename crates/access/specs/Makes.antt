@@ -11,6 +11,7 @@ use Rattle.config.specs.declared.error.QspiError.{QspiError}
 use Rattle.access.specs.declared.progress.Tally.{Tally}
 use Rattle.access.specs.declared.progress.Progress.{Progress}
 use Rattle.access.specs.declared.block.RegisterBlock.{RegisterBlock}
+use Rattle.access.specs.Of.{begun}
 use Rattle.access.specs.Does.{Works, Gets}
 
 -- the progress of a call at a block, if it ends so and its tally is t
@@ -20,14 +21,19 @@ progress_at t e b = record { ended = e; entries = b.entries; taken = b.answers.a
 abbrev pub progress_of : Result (Unit {0}) QspiError → RegisterBlock → Progress
 progress_of e b = progress_at b.tally e b
 
--- no entry made, and the first answer next
-pub record Begun (bound : NonZeroU32) (lent : MutBor (List ℕ)) (words : Bor (List ℕ)) (b : RegisterBlock) : Type 0 where
+-- from the progress p on: log, answers and tally go on as it left them
+pub record Resumed (p : Progress) (bound : NonZeroU32) (lent : MutBor (List ℕ)) (words : Bor (List ℕ))
+    (b : RegisterBlock) : Type 0 where
   pub name : b.log.ghost_name ≡ lent.ghost_name
   pub log : b.log ≡ lent
-  pub entries : b.entries ≡ 0
-  pub answers : b.answers ≡ record { words = words; at = 0 }
-  pub tally : b.tally ≡ record { polls = 0; longest = 0 }
+  pub entries : b.entries ≡ p.entries
+  pub answers : b.answers ≡ record { words = words; at = p.taken }
+  pub tally : b.tally ≡ p.tally
   pub limit : b.limit ≡ bound
+
+-- no entry made, and the first answer next
+abbrev pub Begun : NonZeroU32 → MutBor (List ℕ) → Bor (List ℕ) → RegisterBlock → Type 0
+Begun bound lent words b = Resumed begun bound lent words b
 
 -- the same log and answers are lent, and the limit stands
 pub record Lent (b r : RegisterBlock) : Type 0 where

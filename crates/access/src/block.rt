@@ -37,23 +37,35 @@ impl<'a> RegisterBlock<'a> {
     ghost use Rattle.model.specs.Steps.End.{done};
     ghost use Rattle.model.specs.Steps.Steps.{end, act};
     ghost use Rattle.access.specs.Of.{act_of, ask_of};
-    ghost use Rattle.access.specs.Makes.{Begun, Makes, Queries, progress_of};
+    ghost use Rattle.access.specs.Does.{Sound};
+    ghost use Rattle.access.specs.Makes.{Resumed, Begun, Makes, Queries, progress_of};
 
     // No entry made, and the first answer next.
     pub fn new(limit: NonZeroU32, log: &'a mut [u32], answers: &'a [u32]) -> RegisterBlock<'a>
         ensures { Begun limit log.entry answers.entry result }
     {
+        RegisterBlock::resumed(limit, log, answers, Progress::new())
+    }
+
+    // From a progress on: the log from its entries on, the answers from those taken on, and its tally to be added to.
+    #[inline(always)]
+    pub fn resumed(
+        limit: NonZeroU32,
+        log: &'a mut [u32],
+        answers: &'a [u32],
+        progress: Progress,
+    ) -> RegisterBlock<'a>
+        requires { Sound progress }
+        ensures { Resumed progress limit log.entry answers.entry result }
+    {
         RegisterBlock {
             log,
-            entries: 0,
+            entries: progress.entries,
             answers: Answers {
                 words: answers,
-                at: 0,
+                at: progress.taken,
             },
-            tally: Tally {
-                polls: 0,
-                longest: 0,
-            },
+            tally: progress.tally,
             limit,
         }
     }

@@ -1,7 +1,7 @@
 // What a call comes to: how it ended, and its four counts.
 ghost use Rattle.std.specs.Prelude.{◌≡◌, ◌-◌, ◌^◌, ◌<◌};
 ghost use Rattle.model.specs.Tally.{plus, poll_tally};
-ghost use Rattle.access.specs.Of.{cause_of, tally_in, number_in, refused};
+ghost use Rattle.access.specs.Of.{cause_of, tally_in, number_in, begun, refused};
 
 use config::QspiError;
 
@@ -57,19 +57,29 @@ pub struct Progress {
 }
 
 impl Progress {
-    // A call that was refused before any access.
-    pub fn refused(error: QspiError) -> Progress
-        ensures { result ≡ refused error }
+    // Nothing done yet.
+    pub fn new() -> Progress
+        ensures { result ≡ begun }
     {
         let tally = Tally {
             polls: 0,
             longest: 0,
         };
         Progress {
-            ended: Err(error),
+            ended: Ok(()),
             entries: 0,
             taken: 0,
             tally,
+        }
+    }
+
+    // A call that was refused before any access.
+    pub fn refused(error: QspiError) -> Progress
+        ensures { result ≡ refused error }
+    {
+        Progress {
+            ended: Err(error),
+            ..Progress::new()
         }
     }
 
