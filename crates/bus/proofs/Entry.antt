@@ -1,5 +1,5 @@
--- The calls as a user makes them: refused, or run from no entry and the first answer on.
-use mathlib.Core.Path.{◌≡◌, refl, sym, ◌∙◌}
+-- The calls: stopped, or run from a progress on; and as a user makes them, from no entry and the first answer on.
+use mathlib.Core.Path.{◌≡◌, refl, sym, ap, ◌∙◌}
 use mathlib.Core.Bool.{Bool, true, false, cond}
 use mathlib.Core.List.{List, [], ◌∷◌}
 use Prim.Native.Nat.{ℕ, ◌^◌, ◌≤◌, ◌<◌}
@@ -7,20 +7,21 @@ use native.Mathlib.Omega.{arith}
 use lib.Dec.{eqb, ltb}
 use borrow.Author.Tests.{eqb-false, ltb-false}
 use Rattle.std.proofs.Common.{Bor, MutBor}
-use Rattle.std.specs.Prelude.{Result, Ok, Err}
+use Rattle.std.specs.Prelude.{Result}
 use Rattle.std.specs.declared.num.NonZeroU32.{NonZeroU32}
-use Rattle.model.proofs.Called.{called_refused, called_runs}
+use Rattle.model.specs.State.{with_number, advance}
+use Rattle.model.proofs.From.{from_runs, from_stops}
 use Rattle.config.specs.declared.error.QspiError.{QspiError}
 use Rattle.access.specs.declared.progress.Progress.{Progress}
 use Rattle.access.specs.declared.block.RegisterBlock.{RegisterBlock}
-use Rattle.access.specs.Of.{state_of, begun, refused, Refuses}
-use Rattle.access.specs.Does.{Runs}
-use Rattle.access.specs.Makes.{Begun, progress_of}
+use Rattle.access.specs.Of.{state_of, begun}
+use Rattle.access.specs.Does.{Sound}
+use Rattle.access.specs.Makes.{Resumed, progress_of}
 use Rattle.access.specs.Goes.{Goes, GoesOn}
-use Rattle.access.proofs.Makes.{error_ne0}
 use Rattle.access.proofs.Goes.{begun_runs, goes_on}
-use Rattle.bus.specs.Calls.{Call, steps_of, lengths_of, too_long, refusal, outcome}
-use Rattle.bus.specs.Does.{Called, CalledOn}
+use Rattle.bus.specs.Calls.{Call, steps_of, lengths_of, too_long, refusal, outcome_from}
+use Rattle.bus.specs.Does.{Called, CalledOn, CalledFrom, CalledOnFrom, Stops, Accepts}
+use Rattle.bus.proofs.From.{call_from_begun}
 
 -- What is not refused has a limit above 0 and lengths that fit.
 pub accepted : {limit first second n : ℕ} → n ≡ refusal limit (first ∷ second ∷ []) → n ≡ 0
@@ -41,48 +42,59 @@ accepted {limit} {first} {second} r z =
         (omega arith, omega arith, omega arith)
 
 -- the lengths of a call that has its limit
-pub fitting : {limit first second : ℕ} {l : NonZeroU32} → Refuses limit (refusal limit (first ∷ second ∷ [])) (Ok l)
-    → (first < 2 ^ 24) × (second < 2 ^ 24)
-fitting r = let a = accepted r.is refl in (a.1, a.2)
+pub fitting : {p : Progress} {limit first second : ℕ} {l : NonZeroU32}
+    → Accepts p limit (refusal limit (first ∷ second ∷ [])) l → (first < 2 ^ 24) × (second < 2 ^ 24)
+fitting r = let a = accepted refl r.accepted in (a.1, a.2)
 
-module _ (call : Call) {limit number : ℕ} (same : number ≡ refusal limit (lengths_of call)) where
-  module _ {e : QspiError} (answers log : List ℕ) (r : Refuses limit number (Err e)) where
-    refused_outcome : (m : List ℕ) → state_of (refused e) log m ≡ outcome call limit answers log m
-    unfolding outcome
-    refused_outcome m =
-        rw (← same, ← r.is) (sym (called_refused (steps_of call) limit answers log m (error_ne0 e)))
+-- A call that goes on from the progress p.
+module _ (call : Call) (limit : ℕ) {p : Progress} {number : ℕ} (same : number ≡ refusal limit (lengths_of call)) where
+  module _ (few : Sound p) (answers log : List ℕ) {r : Progress} (s : Stops p number r) where
+    stopped_state : (m : List ℕ) → state_of r log m ≡ outcome_from call limit answers (state_of p log m)
+    unfolding outcome_from
+    stopped_state m =
+        let st = state_of p log m in
+        ap (λ q. state_of q log m) s.counts ∙ ap (λ n. with_number n st) s.is
+        ∙ rw (← same) (sym (from_stops number (steps_of call) limit answers st (λ z. s.some (s.is ∙ z))))
 
-    pub refused_called : Called call limit answers log (refused e) log
-    refused_called = record { state = refused_outcome }
+    stopped_sound : Sound r
+    stopped_sound = rw s.counts few
 
-    pub refused_called_on : {m : List ℕ} → CalledOn call limit answers log m (refused e) log m
-    refused_called_on {m} = record { state = refused_outcome m }
+    pub stopped_from : CalledFrom p call limit answers log r log
+    stopped_from = record { sound = stopped_sound; state = stopped_state }
 
-  -- What is not refused has run from no entry and the first answer on.
-  pub runs_called_on : (answers log : List ℕ) {p q : Progress} {log' m m' : List ℕ} → number ≡ 0 → p ≡ begun
-      → Runs (steps_of call) limit answers p log m q log' m' → CalledOn call limit answers log m q log' m'
-  unfolding outcome
-  runs_called_on answers log {m = m} z b d =
-      record { state = (rw b at d.state) ∙ rw (← same) (sym (called_runs (steps_of call) limit answers log m z)) }
+    pub stopped_on_from : {m : List ℕ} → CalledOnFrom p call limit answers log m r log m
+    stopped_on_from {m} = record { sound = stopped_sound; state = stopped_state m }
 
-  module _ {l : NonZeroU32} {answers : Bor (List ℕ)} {log : MutBor (List ℕ)} {p r : RegisterBlock}
-      {ended : Result (Unit {0}) QspiError}
-      (a : Refuses limit number (Ok l)) (b : Begun l log answers p) where
-    pub goes_called_on : {m m' : List ℕ} → GoesOn (steps_of call) p m r m' ended
-        → CalledOn call limit answers.now log.now m (progress_of ended r) r.log.now m'
-    goes_called_on d = runs_called_on answers.now log.now (sym a.is) refl (rw a.limited at (begun_runs b d))
+  -- What is not stopped has run from there on.
+  module _ {l : NonZeroU32} {answers : Bor (List ℕ)} {log : MutBor (List ℕ)} {b t : RegisterBlock}
+      {ended : Result (Unit {0}) QspiError} (a : Accepts p limit number l) (g : Resumed p l log answers b)
+      {r : Progress} (q : r ≡ progress_of ended t) {log' : List ℕ} (f : log' ≡ t.log.now) where
+    pub goes_on_from : {m m' : List ℕ} → GoesOn (steps_of call) b m t m' ended
+        → CalledOnFrom p call limit answers.now log.now m r log' m'
+    unfolding outcome_from
+    goes_on_from {m} d =
+        let st = state_of p log.now m in
+        let runs = rw a.limited at (begun_runs g d) in
+        rw (q, f)
+        (record {
+          sound = runs.sound;
+          state =
+              runs.state ∙ ap (λ n. advance (steps_of call) limit answers.now (with_number n st)) (sym a.begins)
+              ∙ sym (from_runs _ (steps_of call) limit answers.now st a.begins (sym same ∙ a.accepted));
+        })
 
-    pub goes_called : Goes (steps_of call) p r ended
-        → Called call limit answers.now log.now (progress_of ended r) r.log.now
-    goes_called d = record { state = λ m. (goes_called_on (goes_on d m)).state }
+    pub goes_from : Goes (steps_of call) b t ended → CalledFrom p call limit answers.now log.now r log'
+    goes_from d =
+        let at_none = goes_on_from (goes_on d []) in
+        record { sound = at_none.sound; state = λ m. (goes_on_from (goes_on d m)).state }
 
--- the log that a user has after the call is the block's
-pub called_after : {call : Call} {limit : ℕ} {answers log log' log'' : List ℕ} {p r : Progress}
-    → Called call limit answers log p log'
-    → r ≡ p → log'' ≡ log' → Called call limit answers log r log''
-called_after d e f = rw (e, f) d
+-- A call from no entry on is the call as its user sees it.
+pub called_begun : {call : Call} {limit : ℕ} {answers log log' : List ℕ} {p r : Progress} → p ≡ begun
+    → CalledFrom p call limit answers log r log' → Called call limit answers log r log'
+called_begun {call} {limit} {answers} {log} e d =
+    let d' = rw e at d in record { state = λ m. d'.state m ∙ call_from_begun call limit answers log m }
 
-pub called_on_after : {call : Call} {limit : ℕ} {answers log log' log'' m m' : List ℕ} {p r : Progress}
-    → CalledOn call limit answers log m p log' m'
-    → r ≡ p → log'' ≡ log' → CalledOn call limit answers log m r log'' m'
-called_on_after d e f = rw (e, f) d
+pub called_on_begun : {call : Call} {limit : ℕ} {answers log log' m m' : List ℕ} {p r : Progress} → p ≡ begun
+    → CalledOnFrom p call limit answers log m r log' m' → CalledOn call limit answers log m r log' m'
+called_on_begun {call} {limit} {answers} {log} {m = m} e d =
+    let d' = rw e at d in record { state = d'.state ∙ call_from_begun call limit answers log m }

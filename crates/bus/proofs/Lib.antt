@@ -1,3 +1,4 @@
+pub mod From
 pub mod Entry
 pub mod Refused
 pub mod Limits

@@ -2,7 +2,7 @@
 use Rattle.std.specs.Prelude.{Bool, true, false, cond, List, [], ◌∷◌, ℕ, ltb, length}
 use Rattle.model.specs.Wait.Cause.{start}
 use Rattle.model.specs.Steps.{Steps, wait_for}
-use Rattle.model.specs.State.{State, limit_first, called}
+use Rattle.model.specs.State.{State, limit_first, called_from, called}
 use Rattle.config.specs.declared.config.WorkMode.{WorkMode}
 use Rattle.clock.specs.Dummies.{dummies}
 use Rattle.qspi.specs.Phases.{tx_phase, rx_phase}
@@ -54,3 +54,7 @@ refusal limit lengths = limit_first limit (too_long lengths)
 -- number, counts, log and memory
 unfoldable pub outcome : Call → ℕ → List ℕ → List ℕ → List ℕ → State
 outcome call limit answers log m = called (refusal limit (lengths_of call)) (steps_of call) limit answers log m
+
+-- the same from a state on
+unfoldable pub outcome_from : Call → ℕ → List ℕ → State → State
+outcome_from call limit answers st = called_from (refusal limit (lengths_of call)) (steps_of call) limit answers st

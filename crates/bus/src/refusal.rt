@@ -2,7 +2,9 @@
 ghost use Rattle.std.specs.Prelude.{[], ◌∷◌};
 ghost use Rattle.access.specs.Of.{Refuses};
 ghost use Rattle.bus.specs.Calls.{refusal};
+ghost use Rattle.bus.specs.Does.{Resumes};
 
+use access::Progress;
 use config::QspiError;
 use std::num::NonZeroU32;
 
@@ -23,4 +25,24 @@ pub fn refused(limit: u32, first: usize, second: usize) -> Result<NonZeroU32, Qs
         return Err(QspiError::Length);
     }
     Ok(limit)
+}
+
+// Before a call goes on from a progress: one that has ended comes back as it is, and a refusal ends it with its counts
+// as they stand; else the limit.
+#[inline(always)]
+pub fn resumed(
+    progress: Progress,
+    limit: u32,
+    first: usize,
+    second: usize,
+) -> Result<NonZeroU32, Progress>
+    ensures { Resumes progress limit (refusal limit (first ∷ second ∷ [])) result }
+{
+    match progress.ended.and(refused(limit, first, second)) {
+        Ok(accepted) => Ok(accepted),
+        Err(error) => Err(Progress {
+            ended: Err(error),
+            ..progress
+        }),
+    }
 }

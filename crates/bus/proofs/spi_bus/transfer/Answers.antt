@@ -1,17 +1,5 @@
-use mathlib.Core.Path.{refl}
-use Rattle.std.proofs.Common.{rules}
-use Rattle.bus.specs.Calls.{steps_of, lengths_of, too_long, refusal}
-use Rattle.bus.specs.Calls.Call.{transfer}
-use Rattle.bus.proofs.Entry.{fitting, refused_called_on, goes_called_on, called_on_after}
+use Rattle.bus.proofs.Entry.{called_on_begun}
 use Rattle.bus.proofs.spi_bus.transfer.Goals as goal
 
-pub returns-in-Err : goal.returns-in-Err
-unfolding refusal too_long lengths_of steps_of
-returns-in-Err c = rw c.refused-in-Err.ensures (refused_called_on (transfer _ _) refl _ _ c.in-Err.ensures)
-
-pub transfer-ended-requires : goal.transfer-ended-requires
-transfer-ended-requires c = let ok = fitting c.in-Ok.ensures in (ok.1, ok.0)
-
 pub returns : goal.returns
-unfolding refusal too_long lengths_of steps_of
-returns c = called_on_after (goes_called_on (transfer _ _) refl c.in-Ok.ensures c.new-block.ensures c.transfer-ended.ensures) c.progress.ensures (search rules)
+returns c = called_on_begun c.new.ensures c.transfer_on.ensures

@@ -1,0 +1,19 @@
+use mathlib.Core.Path.{refl}
+use Rattle.std.proofs.Common.{rules}
+use Rattle.bus.specs.Calls.{steps_of, lengths_of, too_long, refusal}
+use Rattle.bus.specs.Calls.Call.{transfer}
+use Rattle.bus.proofs.Entry.{fitting, stopped_on_from, goes_on_from}
+use Rattle.bus.proofs.spi_bus.transfer_on.Goals as goal
+
+pub returns-in-Err : goal.returns-in-Err
+unfolding refusal too_long lengths_of steps_of
+returns-in-Err c = stopped_on_from (transfer _ _) _ refl c.requires _ _ c.in-Err.ensures
+
+pub transfer-ended-requires : goal.transfer-ended-requires
+transfer-ended-requires c = let ok = fitting c.in-Ok.ensures in (ok.1, ok.0)
+
+pub returns : goal.returns
+unfolding refusal too_long lengths_of steps_of
+returns c =
+    goes_on_from (transfer _ _) _ refl c.in-Ok.ensures c.resumed-block.ensures c.progress.ensures
+    (search rules) c.transfer-ended.ensures

@@ -1,0 +1,16 @@
+use mathlib.Core.Path.{refl}
+use Rattle.std.proofs.Common.{rules}
+use Rattle.bus.specs.Calls.{steps_of, lengths_of, too_long, refusal}
+use Rattle.bus.specs.Calls.Call.{set_work_mode}
+use Rattle.bus.proofs.Entry.{stopped_from, goes_from}
+use Rattle.bus.proofs.work_mode.set_work_mode_on.Goals as goal
+
+pub returns-in-Err : goal.returns-in-Err
+unfolding refusal too_long lengths_of steps_of
+returns-in-Err c = stopped_from (set_work_mode _ _) _ refl c.requires _ _ c.in-Err.ensures
+
+pub returns : goal.returns
+unfolding refusal too_long lengths_of steps_of
+returns c =
+    goes_from (set_work_mode _ _) _ refl c.in-Ok.ensures c.resumed-block.ensures c.progress.ensures
+    (search rules) c.set_work_mode-ended.ensures
