@@ -1,11 +1,12 @@
--- The kinds of records (document 01, "Chain and sheet"): which fields are windows, which of their lengths 6 tests, which
--- fields have a largest value, and which are used at all. Fields are numbered as the words of a record: 0 the kind, 1
--- to 6, 7 the next record.
+-- The kinds of records (document 01, "Chain and sheet"): which fields are windows, which of their lengths 6 tests,
+-- which fields have a largest value, and which are used at all. Fields are numbered as the words of a record: 0 the
+-- kind, 1 to 6, 7 the next record.
 use Rattle.std.specs.Prelude.{ℕ, Bool, true, false, List, [], ◌∷◌, get_or}
 use Rattle.records.specs.declared.kinds.Window.{Window}
 use Rattle.records.specs.declared.kinds.Cap.{Cap}
 use Rattle.records.specs.declared.kinds.Kind.{Kind as Row}
 
+-- the fields of a kind: its windows, those with a largest value, and all that it uses
 pub record Kind : Type 0 where
   pub windows : List Window
   pub caps : List Cap

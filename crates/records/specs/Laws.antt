@@ -11,9 +11,8 @@ abbrev pub EachFault : (ℕ → Type 0) → Checked → Type 0
 EachFault P (Err f) = P (error_number f.error)
 EachFault P (Ok rs) = Unit {0}
 
--- 6 is never given where the memory has at most FFFFFF hex bytes, as in a sheet: a length above that lies outside, and
--- 9
--- comes first.
+-- 6 is never given where the memory has at most FFFFFF hex bytes, as in a sheet: a length above that lies outside,
+-- and 9 comes first.
 abbrev pub Never6 : Type 0
 Never6 =
     (memory : ℕ) → memory ≤ 0xFFFFFF → (highest : ℕ) (words : List ℕ)

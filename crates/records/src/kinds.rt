@@ -1,10 +1,12 @@
-// The kinds of records, as a table. Fields are numbered as the words of a record: 0 the kind, 1 to 6, 7 the next record.
+// The kinds of records, as a table. Fields are numbered as the words of a record: 0 the kind, 1 to 6, 7 the next
+// record.
 #![tactic(auto)]
 
 ghost use Rattle.std.specs.Prelude.{◌≡◌};
 ghost use Rattle.std.specs.List.{list_any};
 ghost use Rattle.records.specs.Kinds.{kind_of, row};
-ghost use Rattle.records.specs.Check.{field, known, out_of_range, extent_in, extents_of, outside_of, too_long, windows_fault};
+ghost use Rattle.records.specs.Check.{field, known, out_of_range, windows_fault};
+ghost use Rattle.records.specs.Check.{extent_in, extents_of, outside_of, too_long};
 
 use super::extent::Extent;
 use config::QspiError;

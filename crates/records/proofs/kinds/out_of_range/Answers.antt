@@ -12,5 +12,5 @@ unfolding out_of_range
 returns c =
     let each = YieldsList-from_slice _ c.iter.ensures.rest in
     let above = λ (x : Cap). ltb x.most (field c.args.r.now x.field) in
-    let found = any_from_yields_List above _ _ c.any.result c.any.ensures.ran each (λ x b q k. search (rules, tests)) in
-    found ∙ ap (λ (k : Kind). list_any above k.caps) c.kind_of.ensures
+    any_from_yields_List above _ _ c.any.result c.any.ensures.ran each (λ x b q k. search (rules, tests))
+    ∙ ap (λ (k : Kind). list_any above k.caps) c.kind_of.ensures
