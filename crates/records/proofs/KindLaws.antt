@@ -1,7 +1,9 @@
 -- What words state, by cases over the kinds, and what that says of their fault.
 use Rattle.std.proofs.Common.{◌≡◌, ℕ, zero, suc, ◌+◌, ◌*◌, ◌^◌, ◌<◌, ◌≤◌, Bool, true, false, not, cond, ◌&&◌, ◌||◌}
 use Rattle.std.proofs.Common.{ltb, leb, List, [], ◌∷◌, map, get_or, take, drop, Option, Some, None, is_some}
-use Rattle.std.proofs.Common.{option_map, IfSome, Result, Ok, Err, refl, ap, ◌∙◌, arith}
+use Rattle.std.proofs.Common.{option_map, IfSome, Result, Ok, Err, refl, ap, ◌∙◌, arith, ◌-◌, length}
+use Rattle.std.proofs.Common.{add-one, drop-cons}
+use native.Mathlib.Nat.{add_assoc}
 use Rattle.std.specs.Simd.{first_chunks}
 use Rattle.std.specs.List.{list_any}
 use Rattle.std.proofs.lemmas.Bool.{ltb-false, cond_both}
@@ -13,7 +15,7 @@ use Rattle.config.specs.declared.error.QspiError.{QspiError}
 use Rattle.config.specs.declared.error.QspiError.TheVariants.{Window, Length}
 use Rattle.records.specs.Kinds.{kind_of}
 use Rattle.records.specs.declared.kinds.Cap.{Cap}
-use Rattle.records.specs.Check.{field, known, out_of_range, next_fits, next_of, outside_of, too_long, extent_in}
+use Rattle.records.specs.Check.{record_at, field, known, out_of_range, next_fits, next_of, outside_of, too_long, extent_in}
 use Rattle.records.specs.Check.{extents_fault, windows_fault, record_fault}
 use Rattle.records.specs.Record.{records_of, record_of, windows_of}
 use Rattle.records.specs.Laws.{StatesKnown, StatesWindows}
@@ -28,6 +30,36 @@ chunk_at zero (suc n) ws h = refl
 chunk_at (suc k) (suc n) ws h =
     let e : 8 + 8 * k ≡ 8 * suc k = omega arith in
     rw (← e, ← drop-drop) (chunk_at k n (drop 8 ws) (omega arith))
+
+-- the first n elements from b on, one by one
+abbrev from : ℕ → ℕ → List ℕ → List ℕ
+from zero b l = []
+from (suc n) b l = get_or l b 0 ∷ from n (b + 1) l
+
+from_part : (n b : ℕ) (l : List ℕ) → b + n ≤ length l → from n b l ≡ take n (drop b l)
+from_part zero b l h = refl
+from_part (suc n) b l h =
+    rw (add-one b, drop-cons l b 0 (omega arith))
+    (ap (λ (t : List ℕ). get_or l b 0 ∷ t) (from_part n (suc b) l (omega arith)))
+
+-- A record's eight words are those at its places.
+pub record_words :
+    (ws : List ℕ) (i : ℕ)
+    → 1 ≤ i
+    → 8 * i ≤ length ws
+    → let b = 8 * (i - 1) in
+    get_or ws b 0
+    ∷ get_or ws (b + 1) 0
+    ∷ get_or ws (b + 2) 0
+    ∷ get_or ws (b + 3) 0
+    ∷ get_or ws (b + 4) 0
+    ∷ get_or ws (b + 5) 0
+    ∷ get_or ws (b + 6) 0
+    ∷ get_or ws (b + 7) 0
+    ∷ []
+    ≡ record_at ws i
+unfolding record_at
+record_words ws i p h = simp add_assoc at (from_part 8 (8 * (i - 1)) ws (omega arith))
 
 mode_known : (m : ℕ) → is_some (option_map Mode (work_mode_of m)) ≡ not (ltb 6 m || false)
 mode_known zero = refl
@@ -102,7 +134,7 @@ known_nine highest k h = grind (arith, nat_tests)
 
 -- A record without a fault: its kind, its fields, its next and its windows have passed.
 module _ (highest memory count own : ℕ) (r : List ℕ) (e : record_fault highest memory count own r ≡ Ok tt) where
-  tests_passed :
+  pub tests_passed :
       (known highest (field r 0) ≡ true)
       × (out_of_range r ≡ false)
       × (next_fits own count (next_of r) ≡ true)
