@@ -1,5 +1,6 @@
 pub mod Sequence
 pub mod Paced
+pub mod Portions
 pub mod Bytes
 pub mod Bounds
 pub mod Windows

@@ -1,3 +1,4 @@
 pub mod Phases
 pub mod Bounds
 pub mod Entered
+pub mod Portions

@@ -29,11 +29,11 @@ use Rattle.quad.specs.Quad.{standard_mode, quad_start, quad_steps}
 use Rattle.quad.specs.Frames.{Closes}
 
 -- Mode Standard never ends unsupported, and begins with a poll.
-standard_supported : Supported standard_mode
+pub standard_supported : Supported standard_mode
 unfolding standard_mode work_mode_steps mode_changes lines wait_for then change
 standard_supported = (λ n w w'. tt, tt)
 
-standard_begins : BeginsWithRead standard_mode
+pub standard_begins : BeginsWithRead standard_mode
 unfolding standard_mode work_mode_steps wait_for then
 standard_begins = tt
 

@@ -1,2 +1,3 @@
 pub mod Quad
 pub mod Frames
+pub mod Standard

@@ -1,3 +1,4 @@
 pub mod Paired
 pub mod Calls
 pub mod Recount
+pub mod Longest

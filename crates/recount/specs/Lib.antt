@@ -1,1 +1,2 @@
 pub mod Recount
+pub mod Longest
