@@ -7,3 +7,4 @@ pub mod Windows
 pub mod Supported
 pub mod Moving
 pub mod Pacing
+pub mod Settled

@@ -18,7 +18,7 @@ use Rattle.model.specs.Event.{receive}
 use Rattle.model.specs.Run.{Outcome, after, entered, answered, poll, run}
 use Rattle.qspi.specs.Phases.{Move, moved, moved_all, paced, gots}
 use Rattle.qspi.specs.Phases.Move.{sent}
-use Rattle.qspi.specs.Portions.{Portions, ReadyCounts, Settled, Alike, sending_on, getting_on}
+use Rattle.qspi.specs.Portions.{Portions, ReadyCounts, Alike, sending_on, getting_on}
 use Rattle.qspi.proofs.Paced.{portion, paced_wait, portion_part}
 use Rattle.qspi.proofs.Paced.{take_sent, drop_sent, length_gots, take_gots, drop_gots}
 
@@ -88,7 +88,3 @@ ready_counts =
       space = λ word e. (some space (λ w. refl) word e, omega arith);
       received = λ word e. (some received (λ w. refl) word e, omega arith);
     }
-
-pub settled : Settled
-unfolding run poll answered entered paced moved moved_all gots get_field receive
-settled = record { sent = refl; got = refl; ready = (refl, refl) }

@@ -2,3 +2,4 @@ pub mod Phases
 pub mod Bounds
 pub mod Entered
 pub mod Portions
+pub mod Settled

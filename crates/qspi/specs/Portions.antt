@@ -1,11 +1,9 @@
 -- How a phase moves its bytes (document 01, "Steps"): the wait ends with a count; that many bytes, or what is left,
 -- move with no wait between them; again until none is left.
-use Rattle.std.specs.Prelude.{◌≡◌, Bool, true, false, List, [], ◌∷◌, map, take, drop, length}
+use Rattle.std.specs.Prelude.{◌≡◌, Bool, true, List, [], ◌∷◌, map, take, drop, length}
 use Rattle.std.specs.Prelude.{ℕ, suc, ◌+◌, ◌-◌, ◌≤◌, min}
 use Rattle.model.specs.Wait.{count_of, ready}
 use Rattle.model.specs.Wait.Cause.{space, received}
-use Rattle.model.specs.Event.Act.{send}
-use Rattle.model.specs.Event.Event.{did, got, polled}
 use Rattle.model.specs.Steps.{Steps, then}
 use Rattle.model.specs.Steps.End.{done}
 use Rattle.model.specs.Steps.Steps.{end, wait}
@@ -50,13 +48,3 @@ pub record Portions : Type 0 where
 pub record ReadyCounts : Type 0 where
   pub space : (word : ℕ) → ready space word ≡ true → (1 ≤ count_of space word) × (count_of space word ≤ 64)
   pub received : (word : ℕ) → ready received word ≡ true → (1 ≤ count_of received word) × (count_of received word ≤ 255)
-
--- three bytes: a portion of two, then what is left where there is space for two or more
-pub record Settled : Type 0 where
-  pub sent :
-      (run (sending (7 ∷ 8 ∷ 9 ∷ [])) 1 false 9 (0x3e0000 ∷ 0x3e0000 ∷ []) []).trace
-      ≡ polled space 0 0x3e0000 ∷ did (send 7) ∷ did (send 8) ∷ polled space 0 0x3e0000 ∷ did (send 9) ∷ []
-  pub got :
-      (run (getting 0 3) 1 false 9 (2 ∷ 7 ∷ 8 ∷ 255 ∷ 9 ∷ []) (0 ∷ 0 ∷ 0 ∷ [])).trace
-      ≡ polled received 0 2 ∷ got 0 7 ∷ got 1 8 ∷ polled received 0 255 ∷ got 2 9 ∷ []
-  pub ready : (ready space 0x3e0000 ≡ true) × (ready received 2 ≡ true)
