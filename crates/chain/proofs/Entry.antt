@@ -30,7 +30,7 @@ use Rattle.records.proofs.Lengths.{fault_numbers}
 use Rattle.chain.specs.Chain.{chain_steps}
 use Rattle.chain.specs.Transaction.{Request, first_fault, refusal, outcome, FaultNumber, Transacts}
 use Rattle.chain.specs.Laws.{ChainAgain, ChainRefused}
-use Rattle.chain.proofs.Running.{not_fine}
+use Rattle.chain.proofs.Running.{not_fine, finds, steps_in}
 
 -- the number of what the check finds is the refusal
 pub fault_number : FaultNumber
@@ -52,7 +52,8 @@ module _ {limit : ℕ} (found : Checked) where
   some_first i = rw (ne_eqb limit 0 i) refl
 
 -- nothing is found at no limit 0
-pub fault_free : (limit : ℕ) (found : Checked) → first_fault limit found ≡ Ok tt → (limit ≡ 0 → ⊥) × (verdict found ≡ Ok tt)
+pub fault_free : (limit : ℕ) (found : Checked) → first_fault limit found ≡ Ok tt
+    → (limit ≡ 0 → ⊥) × (verdict found ≡ Ok tt)
 fault_free limit found e =
     let n : limit ≡ 0 → ⊥ = λ z. not_fine (fault Limit 0) (sym (none_first found z) ∙ e) in
     (n, sym (some_first found n) ∙ e)
@@ -67,28 +68,27 @@ found_not (Err g) k f h e = absurd (fault_not (error_number g.error) k f h e)
 found_not (Ok rs) k f h e = (sym e, refl)
 
 module _ {c : Request} {limit : ℕ} {m : List ℕ} where
-  pub refused_transacts : {f : Fault} (answers log : List ℕ) → Err f ≡ first_fault limit (checked c.highest (length m) c.words)
+  pub refused_transacts : {f : Fault} (answers log : List ℕ) → Err f ≡ first_fault limit (finds c m)
       → Transacts c limit answers log m (refused f.error) log m
   unfolding outcome
   refused_transacts {f} answers log e =
-      let n : error_number f.error ≡ refusal limit (checked c.highest (length m) c.words) = ap number_of e ∙ fault_number limit _ in
+      let n : error_number f.error ≡ refusal limit (finds c m) = ap number_of e ∙ fault_number limit _ in
       record {
-        state = rw (← n) (sym (called_refused (chain_steps c.rate c.qpi
-            (chain_of (checked c.highest (length m) c.words))) limit answers log m (error_ne0 f.error)));
+        state = rw (← n) (sym (called_refused (steps_in c m) limit answers log m (error_ne0 f.error)));
       }
 
   -- Where nothing was found, it has run from no entry and the first answer on.
   pub goes_transacts : {l : NonZeroU32} {answers : Bor (List ℕ)} {log : MutBor (List ℕ)} {b r : RegisterBlock}
       {ended : Result (Unit {0}) QspiError} {m' : List ℕ}
-      → first_fault limit (checked c.highest (length m) c.words) ≡ Ok tt → non_zero_u32_get l ≡ limit → Begun l log answers b
-      → GoesOn (chain_steps c.rate c.qpi (chain_of (checked c.highest (length m) c.words))) b m r m' ended
+      → first_fault limit (finds c m) ≡ Ok tt → non_zero_u32_get l ≡ limit → Begun l log answers b
+      → GoesOn (steps_in c m) b m r m' ended
       → {p : Progress} → p ≡ progress_of ended r → {log' : List ℕ} → log' ≡ r.log.now
       → Transacts c limit answers.now log.now m p log' m'
   unfolding outcome
   goes_transacts {answers = answers} {log = log} z l b d q f =
-      let steps = chain_steps c.rate c.qpi (chain_of (checked c.highest (length m) c.words)) in
-      let n : refusal limit (checked c.highest (length m) c.words) ≡ 0 = sym (fault_number limit _) ∙ ap number_of z in
-      rw (q, f) (record { state = (rw l at (begun_runs b d)).state ∙ sym (called_runs steps limit answers.now log.now m n) })
+      let n : refusal limit (finds c m) ≡ 0 = sym (fault_number limit _) ∙ ap number_of z in
+      let runs = called_runs (steps_in c m) limit answers.now log.now m n in
+      rw (q, f) (record { state = (rw l at (begun_runs b d)).state ∙ sym runs })
 
 pub never_two : (highest memory : ℕ) (ws : List ℕ) → number_of (verdict (checked highest memory ws)) ≡ 2 → ⊥
 never_two highest memory ws h =
@@ -104,4 +104,4 @@ chain_again c limit limit' answers more log m =
 
 pub chain_refused : ChainRefused
 unfolding outcome
-chain_refused c limit answers log m i = called_refused (chain_steps c.rate c.qpi (chain_of (checked c.highest (length m) c.words))) limit answers log m i
+chain_refused c limit answers log m i = called_refused (steps_in c m) limit answers log m i

@@ -7,6 +7,7 @@ use native.Mathlib.Omega.{arith}
 use lib.Dec.{eqb}
 use lib.ListN.{length}
 use borrow.Author.Tests.{eqb-true}
+use Rattle.model.specs.Steps.{Steps}
 use Rattle.model.specs.State.{advance}
 use Rattle.model.proofs.Advance.{onto, ended, skipped}
 use Rattle.access.specs.declared.progress.Progress.{Progress}
@@ -55,30 +56,41 @@ chain_ahead : (r : List ℕ) (c : Checked) → verdict c ≡ Ok tt → chain_of 
 chain_ahead r (Err f) e = absurd (not_fine f e)
 chain_ahead r (Ok rs) e = refl
 
+-- what the check finds in a request on that memory, and the steps of the chain; what it finds from a record on
+abbrev pub finds : Request → List ℕ → Checked
+finds c m = checked c.highest (length m) c.words
+
+abbrev pub steps_in : Request → List ℕ → Steps
+steps_in c m = chain_steps c.rate c.qpi (chain_of (finds c m))
+
+abbrev finds_from : Request → List ℕ → ℕ → Checked
+finds_from c m own = from c.highest (length m) c.words own
+
 module _ (c : Request) where
   pub record Running (limit : ℕ) (answers : List ℕ) (p : Progress) (log m : List ℕ) (r : Progress) (log' m' : List ℕ) (own : ℕ) : Type 0 where
     pub same : length m' ≡ length m
     pub one : 1 ≤ own
     pub most : own ≤ length c.words / 8
-    pub fine : verdict (from c.highest (length m) c.words own) ≡ Ok tt
+    pub fine : verdict (finds_from c m own) ≡ Ok tt
     pub sound : Sound r
     pub state :
-        advance (chain_steps c.rate c.qpi (chain_of (checked c.highest (length m) c.words))) limit answers (state_of p log m)
-        ≡ advance (chain_steps c.rate c.qpi (chain_of (from c.highest (length m) c.words own))) limit answers (state_of r log' m')
+        advance (steps_in c m) limit answers (state_of p log m)
+        ≡ advance (chain_steps c.rate c.qpi (chain_of (finds_from c m own))) limit answers (state_of r log' m')
 
   module _ {limit : ℕ} {answers : List ℕ} {p : Progress} {log m : List ℕ} where
-    pub running_none : verdict (checked c.highest (length m) c.words) ≡ Ok tt → length c.words / 8 ≡ 0 → Sound p
-        → Runs (chain_steps c.rate c.qpi (chain_of (checked c.highest (length m) c.words))) limit answers p log m p log m
+    pub running_none : verdict (finds c m) ≡ Ok tt → length c.words / 8 ≡ 0 → Sound p
+        → Runs (steps_in c m) limit answers p log m p log m
     unfolding chain_steps
     running_none f z few =
         rw (whole_empty c.highest (length m) c.words (fine_eight c.highest (length m) c.words f) z)
         (record { sound = few; state = sym (ended limit answers (state_of p log m)) })
 
-    pub running_starts : verdict (checked c.highest (length m) c.words) ≡ Ok tt → 1 ≤ length c.words / 8 → Sound p
+    pub running_starts : verdict (finds c m) ≡ Ok tt → 1 ≤ length c.words / 8 → Sound p
         → Running limit answers p log m p log m 1
     running_starts f h few =
         let w = whole_from c.highest (length m) c.words (fine_eight c.highest (length m) c.words f) in
-        record { same = refl; one = omega arith; most = h; fine = ap verdict (sym w) ∙ f; sound = few; state = rw w refl }
+        let fine : verdict (finds_from c m 1) ≡ Ok tt = ap verdict (sym w) ∙ f in
+        record { same = refl; one = omega arith; most = h; fine = fine; sound = few; state = rw w refl }
 
   module _ {limit : ℕ} {answers : List ℕ} {p r : Progress} {log m log' m' : List ℕ} {own : ℕ} (on : Running limit answers p log m r log' m' own) where
     -- the record has no fault
@@ -100,35 +112,35 @@ module _ (c : Request) where
 
     module _ {rec : List ℕ} {t : Progress} {log'' m'' : List ℕ} (e : rec ≡ record_at c.words own) (d : Runs (record_steps c.rate c.qpi rec) limit answers r log' m' t log'' m'') where
       -- once the record is run, what is left are the records behind it
-      behind : (rs : List (List ℕ)) → chain_of (from c.highest (length m) c.words own) ≡ record_at c.words own ∷ rs
-          → advance (chain_steps c.rate c.qpi (chain_of (checked c.highest (length m) c.words))) limit answers (state_of p log m)
+      behind : (rs : List (List ℕ)) → chain_of (finds_from c m own) ≡ record_at c.words own ∷ rs
+          → advance (steps_in c m) limit answers (state_of p log m)
           ≡ advance (chain_steps c.rate c.qpi rs) limit answers (state_of t log'' m'')
       unfolding chain_steps
       behind rs q =
           onto _ _ limit answers (state_of r log' m') (on.state ∙ ap (λ rs. advance (chain_steps c.rate c.qpi rs) limit answers (state_of r log' m')) q)
           (rw e at d.state)
 
-      last : next_of rec ≡ 0 → chain_of (from c.highest (length m) c.words own) ≡ record_at c.words own ∷ []
+      last : next_of rec ≡ 0 → chain_of (finds_from c m own) ≡ record_at c.words own ∷ []
       last z = ap chain_of (from_last c.highest (length m) c.words own on.one on.most no_fault (rw e at z))
 
       further : (next_of rec ≡ 0 → ⊥) → (own < next_of rec) × (next_of rec ≤ length c.words / 8)
-          × (verdict (from c.highest (length m) c.words (next_of rec)) ≡ Ok tt)
-          × (chain_of (from c.highest (length m) c.words own) ≡ record_at c.words own ∷ chain_of (from c.highest (length m) c.words (next_of rec)))
+          × (verdict (finds_from c m (next_of rec)) ≡ Ok tt)
+          × (chain_of (finds_from c m own) ≡ record_at c.words own ∷ chain_of (finds_from c m (next_of rec)))
       further n =
           let f = from_on c.highest (length m) c.words own on.one on.most no_fault (λ z. n (ap next_of e ∙ z)) in
-          let rest = from c.highest (length m) c.words (next_at c.highest (length m) c.words own) in
+          let rest = finds_from c m (next_at c.highest (length m) c.words own) in
           let fine : verdict rest ≡ Ok tt = sym (ap verdict f.2 ∙ passed (record_at c.words own) rest) ∙ on.fine in
           rw e (f.0, f.1, fine, ap chain_of f.2 ∙ chain_ahead (record_at c.words own) rest fine)
 
       pub running_stops : (number_in t ≡ 0 → ⊥)
-          → Runs (chain_steps c.rate c.qpi (chain_of (checked c.highest (length m) c.words))) limit answers p log m t log'' m''
+          → Runs (steps_in c m) limit answers p log m t log'' m''
       running_stops n = record { sound = d.sound; state = sym (by (next_of rec) refl) }
         where
-          by : (k : ℕ) → next_of rec ≡ k → advance (chain_steps c.rate c.qpi (chain_of (checked c.highest (length m) c.words))) limit answers (state_of p log m) ≡ state_of t log'' m''
+          by : (k : ℕ) → next_of rec ≡ k → advance (steps_in c m) limit answers (state_of p log m) ≡ state_of t log'' m''
           by zero z = behind [] (last z) ∙ skipped _ limit answers (state_of t log'' m'') n
           by (suc k) z = behind _ (further (λ w. omega (arith, z, w))).3 ∙ skipped _ limit answers (state_of t log'' m'') n
 
-      pub running_ends : next_of rec ≡ 0 → Runs (chain_steps c.rate c.qpi (chain_of (checked c.highest (length m) c.words))) limit answers p log m t log'' m''
+      pub running_ends : next_of rec ≡ 0 → Runs (steps_in c m) limit answers p log m t log'' m''
       unfolding chain_steps
       running_ends z = record { sound = d.sound; state = sym (behind [] (last z) ∙ ended limit answers (state_of t log'' m'')) }
 
@@ -155,11 +167,11 @@ module _ (c : Request) where
         Running c (non_zero_u32_get b.limit) b.answers.words.now (progress_of (Ok tt) b) b.log.now m
         (progress_of (Ok tt) r) r.log.now m' own
 
-  pub none_on : (b : RegisterBlock) (m : List ℕ) → verdict (checked c.highest (length m) c.words) ≡ Ok tt → length c.words / 8 ≡ 0
-      → GoesOn (chain_steps c.rate c.qpi (chain_of (checked c.highest (length m) c.words))) b m b m (Ok tt)
+  pub none_on : (b : RegisterBlock) (m : List ℕ) → verdict (finds c m) ≡ Ok tt → length c.words / 8 ≡ 0
+      → GoesOn (steps_in c m) b m b m (Ok tt)
   none_on b m f z = record { lent = lent_same b; runs = running_none c f z b.sound }
 
-  pub starts_on : (b : RegisterBlock) (m : List ℕ) → verdict (checked c.highest (length m) c.words) ≡ Ok tt → 1 ≤ length c.words / 8
+  pub starts_on : (b : RegisterBlock) (m : List ℕ) → verdict (finds c m) ≡ Ok tt → 1 ≤ length c.words / 8
       → RunningOn b m b m 1
   starts_on b m f h = record { lent = lent_same b; runs = running_starts c f h b.sound }
 
@@ -176,7 +188,7 @@ module _ (c : Request) where
     ran d = rw (stated_steps c rec s h) (rw (on.lent.answers, on.lent.limit) at d.runs)
 
     pub stops_on : {a : QspiError} → GoesOn (steps_of c s) r m' t m'' (Err a)
-        → GoesOn (chain_steps c.rate c.qpi (chain_of (checked c.highest (length m) c.words))) b m t m'' (Err a)
+        → GoesOn (steps_in c m) b m t m'' (Err a)
     stops_on {a} d =
         record {
           lent = lent_then on.lent d.lent;
@@ -184,7 +196,7 @@ module _ (c : Request) where
         }
 
     pub ends_on : GoesOn (steps_of c s) r m' t m'' (Ok tt) → next_of rec ≡ 0
-        → GoesOn (chain_steps c.rate c.qpi (chain_of (checked c.highest (length m) c.words))) b m t m'' (Ok tt)
+        → GoesOn (steps_in c m) b m t m'' (Ok tt)
     ends_on d z =
         record {
           lent = lent_then on.lent d.lent;
