@@ -1,5 +1,5 @@
 -- Document 01's number and words of each error, and the number by which a call ends ("How a call ends").
-use Rattle.std.specs.Prelude.{ℕ, List, Result, Ok, Err, codes}
+use Rattle.std.specs.Prelude.{ℕ, Bool, ◌&&◌, ◌||◌, ◌==◌, nat_le, List, Result, Ok, Err, codes}
 use Rattle.config.specs.declared.error.QspiError.{QspiError}
 use Rattle.config.specs.declared.error.QspiError.TheVariants.{Timeout, Unsupported, SpiMode, Instance, Qpi, Length}
 use Rattle.config.specs.declared.error.QspiError.TheVariants.{Limit, Chain, Window, Log, Answers, Divider, Sheet}
@@ -39,3 +39,7 @@ error_text Sheet = codes "sheet"
 abbrev pub ended_number : {T : Type 0} → Result T QspiError → ℕ
 ended_number (Ok x) = 0
 ended_number (Err error) = error_number error
+
+-- the numbers of what touches no register and no lent byte: 3 to 9, 12 and 13 (demand 1)
+abbrev pub touches_nothing : ℕ → Bool
+touches_nothing n = (nat_le 3 n && nat_le n 9) || (n == 12 || n == 13)

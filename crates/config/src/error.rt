@@ -1,6 +1,6 @@
 // Bus errors: those of error.rs, and what else document 01 refuses ("How a call ends").
 ghost use Rattle.std.specs.Prelude.{◌≡◌, Some};
-ghost use Rattle.config.specs.Error.{error_number, error_text, ended_number};
+ghost use Rattle.config.specs.Error.{error_number, error_text, ended_number, touches_nothing};
 
 use std::fmt;
 
@@ -82,4 +82,11 @@ pub fn number_of(ended: Result<(), QspiError>) -> u32
         Ok(()) => 0,
         Err(error) => error.number(),
     }
+}
+
+// Is it the number of what touches no register and no lent byte?
+pub fn touches_nothing(number: u32) -> bool
+    ensures { result ≡ touches_nothing number }
+{
+    matches!(number, 3..=9 | 12 | 13)
 }

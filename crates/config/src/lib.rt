@@ -6,5 +6,5 @@ pub mod error;
 pub mod spi;
 
 pub use config::{CsConfig, QspiConfig, WorkMode};
-pub use error::{QspiError, number_of};
+pub use error::{QspiError, number_of, touches_nothing};
 pub use spi::Mode;
