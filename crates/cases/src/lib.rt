@@ -1,10 +1,10 @@
-// The text of a list of cases: where a case ends, the numbers of its line, and where a byte is.
+// The text of a list of cases: where a case ends, the name and the numbers of its line, and where a byte is.
 #![tactic(auto)]
 
 ghost use Rattle.std.specs.Prelude.{◌≡◌, ◌+◌, ◌≤◌, ◌<◌, length, option_map, IfSome};
 ghost use Rattle.cases.specs.Number.{digit_of, step, value_of, number_of};
 ghost use Rattle.cases.specs.Ends.{ends_at, end_from};
-ghost use Rattle.cases.specs.Find.{index_of, part_of};
+ghost use Rattle.cases.specs.Find.{index_of, part_of, name_of};
 
 // The value of a hexadecimal digit, in lower case.
 fn digit(b: u8) -> Option<u32>
@@ -78,4 +78,14 @@ pub fn find(text: &[u8], from: usize, to: usize, byte: u8) -> Option<usize>
         .iter()
         .position(|b| *b == byte)
         .map(|k| from + k)
+}
+
+// The first word of a line: what stands before its first blank.
+pub fn name(line: &[u8]) -> &[u8]
+    ensures { result.now ≡ name_of line.now }
+{
+    match find(line, 0, line.len(), b' ') {
+        Some(end) => &line[..end],
+        None => line,
+    }
 }

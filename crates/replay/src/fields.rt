@@ -12,11 +12,6 @@ const MOST_NUMBERS: usize = 2048;
 // Nor is one that gives or asks for more bytes at once.
 const MOST_BYTES: usize = 4096;
 
-// The first word of a line.
-pub fn name(line: &[u8]) -> &[u8] {
-    line.split(|b| *b == b' ').next().unwrap_or(line)
-}
-
 // The numbers of a line, each after a blank.
 pub fn parse(alloc: Global, line: &[u8]) -> Result<Vec<u32>, Failure>
     ensures { IfOk result (λ v. vec_len v ≤ MOST_NUMBERS) }

@@ -43,7 +43,7 @@ fn report(rt: &impl Print, tally: Tally) -> io::Result<()> {
 fn answer(alloc: Global, line: &[u8]) -> Result<Vec<u8>, Failure> {
     let numbers = fields::parse(alloc, line)?;
     let f = Fields { rest: &numbers };
-    match fields::name(line) {
+    match cases::name(line) {
         b"write" => call::write(alloc, f),
         b"read" => call::read(alloc, f),
         b"transfer" => call::transfer(alloc, f),
@@ -68,8 +68,9 @@ fn replay(alloc: Global, case: &[u8]) -> io::Result<Verdict> {
     let Some(end) = cases::find(case, 0, case.len(), b'\n') else {
         return Ok(Verdict::Different);
     };
-    match answer(alloc, &case[..end]) {
-        Ok(library) => Ok(verdicts::judge(&case[end + 1..], &library)),
+    let line = &case[..end];
+    match answer(alloc, line) {
+        Ok(library) => Ok(verdicts::judge(line, &case[end + 1..], &library)),
         Err(Failure::NoCase) => Ok(Verdict::Different),
         Err(Failure::Io(e)) => Err(e),
     }

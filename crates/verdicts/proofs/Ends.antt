@@ -5,7 +5,7 @@ use borrow.Author.Tests.{lt-leb}
 use Rattle.std.proofs.lemmas.Bool.{cases_lt}
 use Rattle.std.specs.Option.{option_map_or}
 use Rattle.cases.specs.Number.{number_of, is_hex}
-use Rattle.verdicts.specs.Judged.{end_word, zeros, refusing, refused_end}
+use Rattle.verdicts.specs.Refused.{end_word, zeros, refusing, refused_end}
 
 and_false : (t : Bool) → t && false ≡ false
 and_false true = refl

@@ -1,25 +1,40 @@
--- A case is judged the same precisely if its two answers are equal.
-use Rattle.std.proofs.Common.{◌≡◌, Bool, true, false, cond, ◌&&◌, refl, bytes_eq}
+-- A case is judged the same precisely if its two answers are equal and allowed, and excluded only by a departure.
+use Rattle.std.proofs.Common.{◌≡◌, Bool, true, false, cond, Option, None, Some, unwrap_or, refl, bytes_eq}
 use Rattle.std.proofs.lemmas.Slice.Eq.{bytes_eq-Decides}
 use Rattle.verdicts.specs.declared.Verdict.{Verdict}
-use Rattle.verdicts.specs.Judged.{has_own, refused, judged}
-use Rattle.verdicts.specs.Laws.{SameAreEqual, EqualAreSame}
+use Rattle.cases.specs.Number.{number_of, is_hex, value_of, step, digit_of, in_32}
+use Rattle.verdicts.specs.Refused.{has_own, oracles_own, refusable, refused, refused_end, refusing}
+use Rattle.verdicts.specs.Departures.{agreed}
+use Rattle.verdicts.specs.Judged.{judged}
+use Rattle.verdicts.specs.Laws.{SameAreEqual, EqualAreSame, ExcludedIsAgreed, HypothesesMet}
 
-other : (t : Bool) → cond t Verdict.Excluded Verdict.Different ≡ Verdict.Same → ⊥
-other true e = cc
-other false e = cc
+abbrev verdict : Bool → Bool → Verdict
+verdict allowed same = cond allowed (cond same Verdict.Same Verdict.Excluded) Verdict.Different
+
+same_if : (a s : Bool) → verdict a s ≡ Verdict.Same → s ≡ true
+same_if true true e = refl
+same_if true false e = cc
+same_if false s e = cc
+
+excluded_if : (r : Option Bool) (s : Bool) → verdict (unwrap_or r s) s ≡ Verdict.Excluded → r ≡ Some true
+excluded_if None true e = cc
+excluded_if None false e = cc
+excluded_if (Some true) s e = refl
+excluded_if (Some false) s e = cc
 
 pub same_are_equal : SameAreEqual
 unfolding judged
-same_are_equal oracle library e = by (bytes_eq oracle library) refl e
-  where
-    by : (t : Bool) → bytes_eq oracle library ≡ t
-        → cond t Verdict.Same
-        (cond (has_own oracle && refused library) Verdict.Excluded Verdict.Different) ≡ Verdict.Same
-        → oracle ≡ library
-    by true q e = (bytes_eq-Decides oracle library).0 q
-    by false q e = absurd (other (has_own oracle && refused library) e)
+same_are_equal case oracle library e = (bytes_eq-Decides oracle library).0 (same_if _ _ e)
 
 pub equal_are_same : EqualAreSame
 unfolding judged
-equal_are_same answer = let e : bytes_eq answer answer ≡ true = (bytes_eq-Decides answer answer).1 refl in rw e
+equal_are_same case answer none = let e : bytes_eq answer answer ≡ true = (bytes_eq-Decides answer answer).1 refl in
+    rw (none, e) refl
+
+pub excluded_is_agreed : ExcludedIsAgreed
+unfolding judged
+excluded_is_agreed case oracle library e = excluded_if (agreed case oracle library) _ e
+
+pub hypotheses_met : HypothesesMet
+unfolding judged agreed has_own oracles_own refusable refused refused_end refusing number_of is_hex value_of step digit_of in_32
+hypotheses_met = (refl, refl, refl)

@@ -7,8 +7,8 @@ use Rattle.std.proofs.Math.Seq.{take-length}
 use Rattle.std.proofs.lemmas.List.Splits.{slice_split_none, slice_split_first}
 use Rattle.std.proofs.lemmas.List.Sums.{prefix_len-le-length, fails_before_first}
 use Rattle.cases.specs.Find.{part_of}
-use Rattle.verdicts.specs.Judged.{no_sck, no_rate, oracles_own, is_line_end, line_of, rest_of, has_own}
-use Rattle.verdicts.specs.Judged.{refused_end, refused}
+use Rattle.verdicts.specs.Refused.{no_rate, sck_name, open_name, oracles_own, is_line_end, line_of, rest_of}
+use Rattle.verdicts.specs.Refused.{has_own, refused_end, refused}
 
 -- the place of the first line end; the length where there is none
 abbrev pub end_of : List ℕ → ℕ
@@ -68,9 +68,9 @@ pub found_none : (text : List ℕ) (at : ℕ) → length text ≤ at → has_own
 unfolding has_own oracles_own
 found_none text at h = rw (drop_of_length-le text h) refl
 
--- an answer, test by test; its first line end is found at `end`
-module _ (text : List ℕ) (end : ℕ) (q : end ≡ 0 + end_of (part_of 0 (length text) text))
-    (e : bytes_eq text no_sck ≡ false) where
+-- an answer that is not of dividers, test by test; its first line end is found at `end`
+module _ (name text : List ℕ) (end : ℕ) (q : end ≡ 0 + end_of (part_of 0 (length text) text))
+    (e : bytes_eq name sck_name ≡ false) where
   here : end ≡ end_of text
   here = let k : end ≡ 0 + end_of text = place text 0 end q in omega (arith, k)
 
@@ -79,23 +79,20 @@ module _ (text : List ℕ) (end : ℕ) (q : end ≡ 0 + end_of (part_of 0 (lengt
       let long : length (drop end text) ≤ length text - end = omega (arith, length-drop end text) in
       take_all (length text - end) (drop end text) long ∙ ap (λ (n : ℕ). drop n text) here
 
-  pub refused_not : refused_end (take end text) ≡ false → refused text ≡ false
+  pub refused_not : refused_end (take end text) ≡ false → refused name text ≡ false
   unfolding refused
   refused_not h = let k = ap (λ (n : ℕ). refused_end (take n text)) (sym here) ∙ h in rw (e, k) refl
 
-  pub refused_alone : refused_end (take end text) ≡ true
-      → bytes_eq (take (length text - end) (drop end text)) (10 ∷ []) ≡ true → refused text ≡ true
+  pub refused_alone : refused_end (take end text) ≡ true → bytes_eq name open_name ≡ false
+      → refused name text ≡ bytes_eq (take (length text - end) (drop end text)) (10 ∷ [])
   unfolding refused
-  refused_alone h l =
+  refused_alone h o =
       let k = ap (λ (n : ℕ). refused_end (take n text)) (sym here) ∙ h in
-      let m = ap (λ (x : List ℕ). bytes_eq x (10 ∷ [])) (sym rest) ∙ l in
-      rw (e, k, m) refl
+      rw (e, k, o, rest) refl
 
-  pub refused_rate : refused_end (take end text) ≡ true
-      → bytes_eq (take (length text - end) (drop end text)) (10 ∷ []) ≡ false
-      → refused text ≡ bytes_eq (take (length text - end) (drop end text)) no_rate
+  pub refused_rate : refused_end (take end text) ≡ true → bytes_eq name open_name ≡ true
+      → refused name text ≡ bytes_eq (take (length text - end) (drop end text)) no_rate
   unfolding refused
-  refused_rate h l =
+  refused_rate h o =
       let k = ap (λ (n : ℕ). refused_end (take n text)) (sym here) ∙ h in
-      let m = ap (λ (x : List ℕ). bytes_eq x (10 ∷ [])) (sym rest) ∙ l in
-      rw (e, k, m, rest) refl
+      rw (e, k, o, rest) refl

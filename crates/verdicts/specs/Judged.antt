@@ -1,79 +1,14 @@
--- What the comparison of a case finds (tests/oracle/README.md says what an answer is).
-use Rattle.std.specs.Prelude.{ℕ, ◌-◌, Bool, false, cond, ◌&&◌, ◌||◌, List, [], ◌∷◌, length, take, drop, ◌==◌, nat_eq}
-use Rattle.std.specs.Prelude.{nat_le, bytes_eq}
-use Rattle.std.specs.List.{starts_with, position_or_len, before_first, list_any, slice_split}
-use Rattle.std.specs.Option.{option_map_or}
-use Rattle.cases.specs.Number.{number_of}
+-- What the comparison of a case finds.
+use Rattle.std.specs.Prelude.{ℕ, Bool, cond, List, bytes_eq, unwrap_or}
+use Rattle.verdicts.specs.Departures.{agreed}
 use Rattle.verdicts.specs.declared.Verdict.{Verdict}
 
--- "refused"
-abbrev pub refused_word : List ℕ
-refused_word = 114 ∷ 101 ∷ 102 ∷ 117 ∷ 115 ∷ 101 ∷ 100 ∷ []
+-- is it an answer that the library may give: the oracle's, or where a departure is about the case what that asks for
+abbrev pub allowed : List ℕ → List ℕ → List ℕ → Bool
+allowed case oracle library = unwrap_or (agreed case oracle library) (bytes_eq oracle library)
 
--- "none"
-abbrev pub none_word : List ℕ
-none_word = 110 ∷ 111 ∷ 110 ∷ 101 ∷ []
-
--- "panic "
-abbrev pub panic_word : List ℕ
-panic_word = 112 ∷ 97 ∷ 110 ∷ 105 ∷ 99 ∷ 32 ∷ []
-
--- "end "
-abbrev pub end_word : List ℕ
-end_word = 101 ∷ 110 ∷ 100 ∷ 32 ∷ []
-
--- " 0 0 0 0"
-abbrev pub zeros : List ℕ
-zeros = 32 ∷ 48 ∷ 32 ∷ 48 ∷ 32 ∷ 48 ∷ 32 ∷ 48 ∷ []
-
--- "sck 12 0" and a line end
-abbrev pub no_sck : List ℕ
-no_sck = 115 ∷ 99 ∷ 107 ∷ 32 ∷ 49 ∷ 50 ∷ 32 ∷ 48 ∷ 10 ∷ []
-
--- a line end, "rate 0" and a line end
-abbrev pub no_rate : List ℕ
-no_rate = 10 ∷ 114 ∷ 97 ∷ 116 ∷ 101 ∷ 32 ∷ 48 ∷ 10 ∷ []
-
--- a line that only the oracle has: "refused", "none", or "panic " and what follows
-unfoldable pub oracles_own : List ℕ → Bool
-oracles_own line = bytes_eq line refused_word || (bytes_eq line none_word || starts_with nat_eq line panic_word)
-
-abbrev pub is_line_end : ℕ → Bool
-is_line_end b = b == 10
-
--- the first line, without its line end
-abbrev pub line_of : List ℕ → List ℕ
-line_of text = before_first is_line_end text
-
--- what stands from the end of the first line on
-abbrev pub rest_of : List ℕ → List ℕ
-rest_of text = drop (position_or_len is_line_end text) text
-
--- one of the lines is the oracle's own
-unfoldable pub has_own : List ℕ → Bool
-has_own text = list_any oracles_own (slice_split is_line_end text)
-
--- the numbers of calls that are refused: 3 to 9, and 13
-unfoldable pub refusing : ℕ → Bool
-refusing n = (nat_le 3 n && nat_le n 9) || n == 13
-
--- the end line of a refused call: "end ", its number, and " 0 0 0 0"
-unfoldable pub refused_end : List ℕ → Bool
-refused_end line =
-    nat_le 13 (length line)
-    && (bytes_eq (take 4 line) end_word
-    && (bytes_eq (drop (length line - 8) line) zeros
-    && option_map_or refusing (number_of (take (length line - 12) (drop 4 line))) false))
-
--- the whole answer of a refused call: its end line, and "rate 0" for an opening; or "sck 12 0" for dividers that do
--- not exist
-unfoldable pub refused : List ℕ → Bool
-refused text =
-    bytes_eq text no_sck
-    || (refused_end (line_of text) && (bytes_eq (rest_of text) (10 ∷ []) || bytes_eq (rest_of text) no_rate))
-
--- the same answer; excluded where the oracle has none of the kind and the library refuses the call; else different
-unfoldable pub judged : List ℕ → List ℕ → Verdict
-judged oracle library =
-    cond (bytes_eq oracle library) Verdict.Same
-    (cond (has_own oracle && refused library) Verdict.Excluded Verdict.Different)
+-- the same answer; excluded where another is due and the library gives it; else different
+unfoldable pub judged : List ℕ → List ℕ → List ℕ → Verdict
+judged case oracle library =
+    cond (allowed case oracle library)
+    (cond (bytes_eq oracle library) Verdict.Same Verdict.Excluded) Verdict.Different

@@ -1,3 +1,5 @@
+pub mod Refused
+pub mod Departures
 pub mod Judged
 pub mod Tallied
 pub mod Laws

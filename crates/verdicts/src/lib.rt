@@ -1,16 +1,20 @@
-// The verdict on a case: the oracle's answer against the library's; and the tally of verdicts.
+// The verdict on a case: the oracle's answer against the library's, but for agreed departures; and the tally of verdicts.
 #![tactic(auto)]
 
 ghost use Rattle.std.specs.Prelude.{◌≡◌};
-ghost use Rattle.verdicts.specs.Judged.{oracles_own, has_own, refusing, refused_end, refused, judged};
+ghost use Rattle.verdicts.specs.Refused.{oracles_own, has_own, refusing, refused_end, refused, refusable};
+ghost use Rattle.verdicts.specs.Departures.{agreed};
+ghost use Rattle.verdicts.specs.Judged.{judged};
 ghost use Rattle.verdicts.specs.Tallied.{none, tallied};
 ghost use Rattle.verdicts.specs.declared.Verdict.{Verdict};
+
+use config::QspiError;
 
 // What the comparison of a case found.
 #[derive(Clone, Copy, Debug, PartialEq, Eq)]
 pub enum Verdict {
     Same,
-    // The oracle has no such answer, and the library refuses the call.
+    // Another answer than the oracle's is due, by an agreed departure, and the library gave it.
     Excluded,
     Different,
 }
@@ -65,7 +69,7 @@ impl Tally {
 }
 
 // A line that only the oracle has: the Rust panics, or has no form for the case.
-#[tactic(auto, unfolding(crate::specs::Judged::oracles_own))]
+#[tactic(auto, unfolding(crate::specs::Refused::oracles_own))]
 fn oracles_own_line(line: &[u8]) -> bool
     ensures { result ≡ oracles_own line.now }
 {
@@ -80,12 +84,12 @@ fn has_oracles_own_line(answer: &[u8]) -> bool
         .any(|line| oracles_own_line(line))
 }
 
-// One of the numbers of a call that is refused.
-#[tactic(auto, unfolding(crate::specs::Judged::refusing))]
+// One of the numbers by which a call is refused: 12 is the clock rate's alone.
+#[tactic(auto, unfolding(crate::specs::Refused::refusing))]
 fn refuses(number: u32) -> bool
     ensures { result ≡ refusing number }
 {
-    matches!(number, 3..=9 | 13)
+    config::touches_nothing(number) && number != QspiError::Divider.number()
 }
 
 // An end line with such a number and all counts 0.
@@ -104,31 +108,55 @@ fn refusal_line(line: &[u8]) -> bool
     }
 }
 
-// A refused call: no entry, and no byte another. A refused opening has no rate, refused dividers no rate.
-#[tactic(auto, unfolding(crate::specs::Judged::refused))]
-fn is_refusal(answer: &[u8]) -> bool
-    ensures { result ≡ refused answer.now }
+// A refused call of this name: no entry, and no byte another. A refused opening has no rate, refused dividers no rate.
+#[tactic(auto, unfolding(crate::specs::Refused::refused))]
+fn is_refusal(name: &[u8], answer: &[u8]) -> bool
+    ensures { result ≡ refused name.now answer.now }
 {
-    if answer == b"sck 12 0\n".as_slice() {
-        return true;
+    if name == b"sck".as_slice() {
+        return answer == b"sck 12 0\n".as_slice();
     }
     let Some(end) = cases::find(answer, 0, answer.len(), b'\n') else {
         return false;
     };
     let (line, rest) = answer.split_at(end);
-    refusal_line(line) && (rest == b"\n".as_slice() || rest == b"\nrate 0\n".as_slice())
+    if name == b"open".as_slice() {
+        return refusal_line(line) && rest == b"\nrate 0\n".as_slice();
+    }
+    refusal_line(line) && rest == b"\n".as_slice()
 }
 
-// What the oracle answered against what the library did.
-#[tactic(auto, unfolding(crate::specs::Judged::judged))]
-pub fn judge(oracle: &[u8], library: &[u8]) -> Verdict
-    ensures { result ≡ judged oracle.now library.now }
+// Release, clock choice and dummies refuse nothing.
+#[tactic(auto, unfolding(crate::specs::Refused::refusable))]
+fn may_be_refused(name: &[u8]) -> bool
+    ensures { result ≡ refusable name.now }
 {
-    if oracle == library {
-        return Verdict::Same;
+    name != b"free".as_slice() && name != b"clock".as_slice() && name != b"dummy".as_slice()
+}
+
+// The agreed departures from the Rust, a row each: which cases it is about, and whether the library answered what is
+// then due. None where the case is none of them.
+#[tactic(auto, unfolding(crate::specs::Departures::agreed))]
+fn agreed(case: &[u8], oracle: &[u8], library: &[u8]) -> Option<bool>
+    ensures { result ≡ agreed case.now oracle.now library.now }
+{
+    let name = cases::name(case);
+    // The Rust panics, or has no form for the case; the call is refused.
+    if may_be_refused(name) && has_oracles_own_line(oracle) {
+        return Some(is_refusal(name, library));
     }
-    if has_oracles_own_line(oracle) && is_refusal(library) {
-        return Verdict::Excluded;
+    None
+}
+
+// What the oracle answered to a case against what the library did.
+#[tactic(auto, unfolding(crate::specs::Judged::judged))]
+pub fn judge(case: &[u8], oracle: &[u8], library: &[u8]) -> Verdict
+    ensures { result ≡ judged case.now oracle.now library.now }
+{
+    let same = oracle == library;
+    match (agreed(case, oracle, library).unwrap_or(same), same) {
+        (true, true) => Verdict::Same,
+        (true, false) => Verdict::Excluded,
+        (false, _) => Verdict::Different,
     }
-    Verdict::Different
 }

@@ -1,7 +1,7 @@
 use Rattle.std.proofs.Common.{rules, tests}
 use Rattle.std.proofs.lemmas.Iterator.Splits.{YieldsList-from_slice_split}
 use Rattle.std.proofs.lemmas.Iterator.Search.{any_from_yields_List}
-use Rattle.verdicts.specs.Judged.{oracles_own, has_own, is_line_end}
+use Rattle.verdicts.specs.Refused.{oracles_own, has_own, is_line_end}
 use Rattle.verdicts.proofs.has_oracles_own_line.Goals as goal
 
 pub returns : goal.returns

@@ -1,6 +1,6 @@
 use Rattle.std.proofs.Common.{sym, ap, ◌∙◌, false, ℕ, Option}
 use Rattle.std.specs.Option.{option_map_or}
-use Rattle.verdicts.specs.Judged.{refusing}
+use Rattle.verdicts.specs.Refused.{refusing}
 use Rattle.verdicts.proofs.Ends.{end_other, end_counted, end_number}
 use Rattle.verdicts.proofs.refusal_line.Goals as goal
 

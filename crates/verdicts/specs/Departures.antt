@@ -1,0 +1,31 @@
+-- The agreed departures from the Rust, one row each.
+use Rattle.std.specs.Prelude.{ℕ, Bool, ◌&&◌, cond, List, [], ◌∷◌, Option, None, Some}
+use Rattle.cases.specs.Find.{name_of}
+use Rattle.verdicts.specs.Refused.{has_own, refusable, refused}
+
+-- Which cases it is about, by the case's line and the oracle's answer; and whether the library's answer to such a case,
+-- the last argument, is the one that is due.
+pub record Departure : Type 0 where
+  pub about : List ℕ → List ℕ → Bool
+  pub answered : List ℕ → List ℕ → List ℕ → Bool
+
+-- the Rust panics, or has no form for the case; the call is refused
+abbrev pub none_in_rust : Departure
+none_in_rust =
+    record {
+      about = λ case oracle. refusable (name_of case) && has_own oracle;
+      answered = λ case oracle library. refused (name_of case) library;
+    }
+
+-- the table
+abbrev pub departures : List Departure
+departures = none_in_rust ∷ []
+
+-- whether the first departure that is about the case allows the answer, if there is one
+abbrev pub agreed_by : List Departure → List ℕ → List ℕ → List ℕ → Option Bool
+agreed_by [] case oracle library = None
+agreed_by (d ∷ ds) case oracle library =
+    cond (d.about case oracle) (Some (d.answered case oracle library)) (agreed_by ds case oracle library)
+
+unfoldable pub agreed : List ℕ → List ℕ → List ℕ → Option Bool
+agreed case oracle library = agreed_by departures case oracle library
