@@ -1,7 +1,7 @@
 // Cases of the bus trait's calls and of chains.
 use super::failure::Failure;
 use super::fields::Fields;
-use super::text::{logged, on_memory};
+use super::text::{logged, on_memory, on_sheet};
 use std::alloc::Global;
 
 pub fn write(alloc: Global, mut f: Fields<'_>) -> Result<Vec<u8>, Failure> {
@@ -63,11 +63,8 @@ pub fn transaction(alloc: Global, mut f: Fields<'_>) -> Result<Vec<u8>, Failure>
     })
 }
 
-// The log of a sheet has 4,096 entries.
 pub fn sheet(alloc: Global, mut f: Fields<'_>) -> Result<Vec<u8>, Failure> {
     let given = f.bytes(alloc)?;
     f.end()?;
-    on_memory(alloc, u32::MAX, &given, |log, bytes| {
-        sheet_run::run(bytes, log)
-    })
+    on_sheet(alloc, &given, |log, bytes| sheet_run::run(bytes, log))
 }

@@ -15,6 +15,9 @@ const ENTRY_LINE: usize = 16;
 
 const END_LINE: usize = 128;
 
+// What stands behind the end line where the call wrote what it must not.
+const CHANGED: &[u8] = b"changed\n";
+
 // A call on the first words of a log, at most all: the log's lines, and how it ended.
 pub fn logged<F: FnOnce(&mut [u32]) -> Progress>(
     alloc: Global,
@@ -44,7 +47,30 @@ pub fn on_memory<F: FnOnce(&mut [u32], &mut [u8]) -> Progress>(
     Ok(out)
 }
 
-// A line for each byte that is no longer what was given.
+// A call on a sheet's bytes, whose log has 4,096 entries: the memory of the sheet begins behind its answers; bytes that
+// are no sheet have none. Then `changed` if a byte before the memory is no longer what was given.
+pub fn on_sheet<F: FnOnce(&mut [u32], &mut [u8]) -> Progress>(
+    alloc: Global,
+    given: &[u8],
+    call: F,
+) -> Result<Vec<u8>, Failure>
+    requires { F.IsAlwaysCallable call }
+{
+    let memory = sheet::open(given).map_or(given.len(), |h| h.memory);
+    let mut held = Vec::from_slice(alloc, given)?;
+    let mut log = [UNTOUCHED; LOG_WORDS];
+    let progress = call(&mut log, &mut held);
+    let mut out = ended(alloc, &log, progress)?;
+    let (before, given) = given.split_at_checked(memory).ok_or(Failure::NoCase)?;
+    let (held_before, held) = held.split_at_checked(memory).ok_or(Failure::NoCase)?;
+    if before != held_before {
+        out.extend_from_slice(CHANGED)?;
+    }
+    changes(&mut out, given, held)?;
+    Ok(out)
+}
+
+// A line for each byte that is no longer what was given, by its place in the memory.
 fn changes(out: &mut Vec<u8>, given: &[u8], held: &[u8]) -> Result<(), Failure> {
     for (place, (given, held)) in given.iter().zip(held).enumerate() {
         if given != held {
@@ -64,7 +90,7 @@ fn ended(alloc: Global, log: &[u32; LOG_WORDS], p: Progress) -> Result<Vec<u8>, 
     let len = lines::render(&mut out, log, p);
     out.truncate(len);
     if log[2 * entries..].iter().any(|w| *w != UNTOUCHED) {
-        out.extend_from_slice(b"changed\n")?;
+        out.extend_from_slice(CHANGED)?;
     }
     Ok(out)
 }

@@ -250,11 +250,10 @@ fn dummy(w: &mut Words, out: &mut String) -> Result<(), String> {
 /// The log of a sheet: 4,096 entries.
 const SHEET_LOG_WORDS: usize = 8192;
 
-/// Runs the bytes as a sheet; the changed ones are told where a memory is asked for, by their place in the sheet.
-fn sheet(w: &mut Words, memory: bool, out: &mut String) -> Result<(), String> {
+/// Runs the bytes as a sheet; where a memory is asked for, its changed bytes are told by their place in it.
+fn sheet(w: &mut Words, told: bool, out: &mut String) -> Result<(), String> {
     let mut bytes = w.bytes()?;
     w.end()?;
-    let given = bytes.clone();
     let Some((s, chain)) = Sheet::read(&bytes).and_then(|s| {
         let chain = chain(&s.records, OF_SHEETS, bytes.len() - s.memory)?;
         Some((s, chain))
@@ -264,10 +263,12 @@ fn sheet(w: &mut Words, memory: bool, out: &mut String) -> Result<(), String> {
     };
     let lent = Lent { limit: u64::from(s.limit), log_words: SHEET_LOG_WORDS };
     lent.begin_with(s.answers);
-    let how = run(&chain, s.qpi, s.rate, &mut bytes[s.memory..]);
+    let memory = &mut bytes[s.memory..];
+    let given = memory.to_vec();
+    let how = run(&chain, s.qpi, s.rate, memory);
     ended(&how, out);
-    if memory {
-        changed(&given, &bytes, out);
+    if told {
+        changed(&given, memory, out);
     }
     Ok(())
 }

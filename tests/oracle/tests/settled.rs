@@ -80,12 +80,12 @@ fn kinds_of_a_sheet() {
 
 #[test]
 fn memory_of_a_sheet() {
-    // Sends 1..4 as they stand, then reads into 0..3; the bytes are those of the sheet, behind 33 words.
+    // Sends 1..4 as they stand, then reads into 0..3; the bytes are told by their places in the memory.
     let case = one_record(0, [3, 0, 3, 1, 3, 9, 9, 0], 20, &[5, 6, 7, 8]);
     let told = lines(&format!("sheet {case}"));
     let sent: Vec<&str> = told.iter().filter_map(|l| l.strip_prefix("b 0200 ")).collect();
     assert_eq!(sent, ["00000006", "00000007", "00000008"]);
-    assert_eq!(told[told.len() - 4..], ["end 0 35 20 7 0", "m 00000084 01", "m 00000085 01", "m 00000086 01"]);
+    assert_eq!(told[told.len() - 4..], ["end 0 35 20 7 0", "m 00000000 01", "m 00000001 01", "m 00000002 01"]);
 }
 
 #[test]

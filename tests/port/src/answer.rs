@@ -2,6 +2,7 @@
 
 use crate::lines::answer_each;
 use crate::program;
+use crate::received::{parts, places, received};
 use crate::words::Words;
 use qspi::{Ended, Lent, by_number};
 use std::fmt::Write as _;
@@ -33,40 +34,75 @@ const CASES: [(&str, Answer); 16] = [
 /// What a log word holds before a call, so that one written past the last entry shows.
 const UNTOUCHED: u32 = 0x5AA5_C33C;
 
-/// Makes a call on a lent log and the answers that end the case, and writes how it ended.
-fn call(
+/// With what the case of a call begins, but an opening's and a release's: the limit, and the words of the lent log.
+struct Room {
     limit: u32,
     log_words: usize,
-    w: &mut Words,
-    out: &mut String,
-    f: impl FnOnce(&mut Lent) -> Ended,
-) -> Result<(), String> {
-    let answers = w.list()?;
-    w.end()?;
-    let mut log = vec![UNTOUCHED; log_words];
-    let e = f(&mut Lent { limit, log: &mut log, answers: &answers });
-    ended(e, &log, out)
 }
 
-/// Writes the log, the end line and, if a word past the last entry no longer has its value, `changed`.
-fn ended(e: Ended, log: &[u32], out: &mut String) -> Result<(), String> {
+impl Room {
+    fn read(w: &mut Words) -> Result<Room, String> {
+        Ok(Room { limit: w.u32()?, log_words: w.usize()? })
+    }
+
+    /// Makes a call on a lent log and the answers that end the case.
+    fn lend(&self, w: &mut Words, f: impl FnOnce(&mut Lent) -> Ended) -> Result<(Ended, Vec<u32>), String> {
+        let answers = w.list()?;
+        w.end()?;
+        let mut log = vec![UNTOUCHED; self.log_words];
+        let ended = f(&mut Lent { limit: self.limit, log: &mut log, answers: &answers });
+        Ok((ended, log))
+    }
+
+    /// Makes a call that receives nothing, and writes how it ended.
+    fn call(&self, w: &mut Words, out: &mut String, f: impl FnOnce(&mut Lent) -> Ended) -> Result<(), String> {
+        let (e, log) = self.lend(w, f)?;
+        ended(e, &log, true, out)
+    }
+
+    /// Makes a call that receives into a buffer, at these places one after the other.
+    fn receive(
+        &self,
+        w: &mut Words,
+        out: &mut String,
+        mut buffer: Vec<u8>,
+        places: impl Iterator<Item = usize>,
+        f: impl FnOnce(&mut Lent, &mut [u8]) -> Ended,
+    ) -> Result<(), String> {
+        let given = buffer.clone();
+        let (e, log) = self.lend(w, |lent| f(lent, &mut buffer))?;
+        on_memory(e, &log, [&given, &buffer], places, out)
+    }
+}
+
+/// Writes the log, the end line and, if the call wrote what it must not, `changed`: a word past the last entry or, as
+/// the caller says, a byte.
+fn ended(e: Ended, log: &[u32], bytes_kept: bool, out: &mut String) -> Result<(), String> {
     for entry in e.log(log) {
         writeln!(out, "{entry}").map_err(|e| e.to_string())?;
     }
     writeln!(out, "{e}").map_err(|e| e.to_string())?;
-    if e.split(log).1.iter().any(|&word| word != UNTOUCHED) {
+    if !bytes_kept || e.split(log).1.iter().any(|&word| word != UNTOUCHED) {
         out.push_str("changed\n");
     }
     Ok(())
 }
 
-/// A line for each byte that is no longer what was given.
-fn changes(given: &[u8], now: &[u8], out: &mut String) {
+/// Writes how a call ended that received at these places, and a line for each byte that is no longer what was given.
+fn on_memory(
+    e: Ended,
+    log: &[u32],
+    [given, now]: [&[u8]; 2],
+    places: impl Iterator<Item = usize>,
+    out: &mut String,
+) -> Result<(), String> {
+    ended(e, log, now == received(given, places, e.log(log)), out)?;
     for (i, (a, b)) in given.iter().zip(now).enumerate() {
         if a != b {
-            let _ = writeln!(out, "m {i:08x} {b:02x}");
+            writeln!(out, "m {i:08x} {b:02x}").map_err(|e| e.to_string())?;
         }
     }
+    Ok(())
 }
 
 fn open(w: &mut Words, out: &mut String) -> Result<(), String> {
@@ -76,7 +112,7 @@ fn open(w: &mut Words, out: &mut String) -> Result<(), String> {
     let (bit_mode, lsb_first) = (w.flag()?, w.flag()?);
     let (selects, record) = (w.flag()?, [w.flag()?, w.flag()?, w.flag()?]);
     let (freq, pll_hz, osc_hz) = (w.u32()?, w.u32()?, w.u32()?);
-    let (qpi, limit, log_words) = (w.flag()?, w.u32()?, w.usize()?);
+    let (qpi, room) = (w.flag()?, Room::read(w)?);
     let asked = by_number::Opening {
         instance,
         qpi,
@@ -92,7 +128,7 @@ fn open(w: &mut Words, out: &mut String) -> Result<(), String> {
         cs: selects.then_some(record),
     };
     let mut rate = 0;
-    call(limit, log_words, w, out, |lent| {
+    room.call(w, out, |lent| {
         let (ended, hz) = by_number::open(lent, &asked);
         rate = hz;
         ended
@@ -102,75 +138,53 @@ fn open(w: &mut Words, out: &mut String) -> Result<(), String> {
 
 fn free(w: &mut Words, out: &mut String) -> Result<(), String> {
     let (instance, log_words) = (w.u32()?, w.usize()?);
-    call(1, log_words, w, out, |lent| qspi::free(lent.log, lent.answers, instance))
+    Room { limit: 1, log_words }.call(w, out, |lent| qspi::free(lent.log, lent.answers, instance))
 }
 
 fn write(w: &mut Words, out: &mut String) -> Result<(), String> {
-    let (limit, log_words, bytes) = (w.u32()?, w.usize()?, w.bytes()?);
-    call(limit, log_words, w, out, |lent| qspi::write(lent, &bytes))
+    let (room, bytes) = (Room::read(w)?, w.bytes()?);
+    room.call(w, out, |lent| qspi::write(lent, &bytes))
 }
 
 fn read(w: &mut Words, out: &mut String) -> Result<(), String> {
-    let (limit, log_words, mut bytes) = (w.u32()?, w.usize()?, w.bytes()?);
-    let given = bytes.clone();
-    call(limit, log_words, w, out, |lent| qspi::read(lent, &mut bytes))?;
-    changes(&given, &bytes, out);
-    Ok(())
+    let (room, bytes) = (Room::read(w)?, w.bytes()?);
+    room.receive(w, out, bytes, 0.., qspi::read)
 }
 
 fn transfer(w: &mut Words, out: &mut String) -> Result<(), String> {
-    let (limit, log_words) = (w.u32()?, w.usize()?);
-    let (mut bytes, sent) = (w.bytes()?, w.bytes()?);
-    let given = bytes.clone();
-    call(limit, log_words, w, out, |lent| qspi::transfer(lent, &mut bytes, &sent))?;
-    changes(&given, &bytes, out);
-    Ok(())
+    let (room, bytes, sent) = (Room::read(w)?, w.bytes()?, w.bytes()?);
+    room.receive(w, out, bytes, 0.., |lent, bytes| qspi::transfer(lent, bytes, &sent))
 }
 
 fn flush(w: &mut Words, out: &mut String) -> Result<(), String> {
-    let (limit, log_words) = (w.u32()?, w.usize()?);
-    call(limit, log_words, w, out, qspi::flush)
+    Room::read(w)?.call(w, out, qspi::flush)
 }
 
 fn inplace(w: &mut Words, out: &mut String) -> Result<(), String> {
-    let (limit, log_words, mut bytes) = (w.u32()?, w.usize()?, w.bytes()?);
-    let given = bytes.clone();
-    call(limit, log_words, w, out, |lent| qspi::transfer_in_place(lent, &mut bytes))?;
-    changes(&given, &bytes, out);
-    Ok(())
+    let (room, bytes) = (Room::read(w)?, w.bytes()?);
+    room.receive(w, out, bytes, 0.., qspi::transfer_in_place)
 }
 
 fn mode(w: &mut Words, out: &mut String) -> Result<(), String> {
-    let (limit, log_words) = (w.u32()?, w.usize()?);
-    let (qpi, mode) = (w.flag()?, w.u32()?);
-    call(limit, log_words, w, out, |lent| by_number::set_work_mode(lent, qpi, mode))
+    let (room, qpi, mode) = (Room::read(w)?, w.flag()?, w.u32()?);
+    room.call(w, out, |lent| by_number::set_work_mode(lent, qpi, mode))
 }
 
 fn quadread(w: &mut Words, out: &mut String) -> Result<(), String> {
-    let (limit, log_words, hz) = (w.u32()?, w.usize()?, w.u32()?);
-    let command = w.bytes()?;
-    let (tclqv_ns, margin) = (w.u32()?, w.up_to(255)? as u8);
-    let mut bytes = w.bytes()?;
-    let given = bytes.clone();
+    let (room, hz, command) = (Room::read(w)?, w.u32()?, w.bytes()?);
+    let (tclqv_ns, margin, bytes) = (w.u32()?, w.up_to(255)? as u8, w.bytes()?);
     let asked = qspi::QuadRead { hz, command: &command, tclqv_ns, margin };
-    call(limit, log_words, w, out, |lent| qspi::read_quad(lent, &asked, &mut bytes))?;
-    changes(&given, &bytes, out);
-    Ok(())
+    room.receive(w, out, bytes, 0.., |lent, bytes| qspi::read_quad(lent, &asked, bytes))
 }
 
 fn quadwrite(w: &mut Words, out: &mut String) -> Result<(), String> {
-    let (limit, log_words) = (w.u32()?, w.usize()?);
-    let (command, data) = (w.bytes()?, w.bytes()?);
-    call(limit, log_words, w, out, |lent| qspi::write_quad(lent, &command, &data))
+    let (room, command, data) = (Room::read(w)?, w.bytes()?, w.bytes()?);
+    room.call(w, out, |lent| qspi::write_quad(lent, &command, &data))
 }
 
 fn transaction(w: &mut Words, out: &mut String) -> Result<(), String> {
-    let (limit, log_words) = (w.u32()?, w.usize()?);
-    let (records, mut memory) = (w.list()?, w.bytes()?);
-    let given = memory.clone();
-    call(limit, log_words, w, out, |lent| qspi::transaction(lent, &mut memory, &records))?;
-    changes(&given, &memory, out);
-    Ok(())
+    let (room, records, memory) = (Room::read(w)?, w.list()?, w.bytes()?);
+    room.receive(w, out, memory, places(&records), |lent, memory| qspi::transaction(lent, memory, &records))
 }
 
 fn clock(w: &mut Words, out: &mut String) -> Result<(), String> {
@@ -201,9 +215,12 @@ fn sheet(w: &mut Words, out: &mut String) -> Result<(), String> {
     let given = bytes.clone();
     let mut log = vec![UNTOUCHED; qspi::SHEET_LOG_WORDS];
     let e = qspi::sheet(&mut bytes, &mut log);
-    ended(e, &log, out)?;
-    changes(&given, &bytes, out);
-    Ok(())
+    let (records, memory) = parts(&given);
+    let (before, now) = bytes.split_at(memory);
+    if before != &given[..memory] {
+        return ended(e, &log, false, out);
+    }
+    on_memory(e, &log, [&given[memory..], now], places(&records), out)
 }
 
 fn print(w: &mut Words, out: &mut String) -> Result<(), String> {

@@ -5,6 +5,7 @@ mod answer;
 #[path = "../../oracle/src/lines.rs"]
 mod lines;
 mod program;
+mod received;
 #[path = "../../oracle/src/words.rs"]
 mod words;
 
