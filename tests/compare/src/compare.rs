@@ -18,8 +18,10 @@ pub type Answered = [String; 3];
 
 #[derive(Default)]
 pub struct Tally {
-    /// How many cases have each verdict, in the order of `Verdict`.
-    counts: [usize; 3],
+    same: usize,
+    different: usize,
+    /// How many cases are excluded by each departure.
+    excluded: BTreeMap<&'static str, usize>,
     /// How many calls of the port ended with each number.
     ends: BTreeMap<u32, usize>,
     /// The smallest case that differs.
@@ -29,7 +31,11 @@ pub struct Tally {
 impl Tally {
     fn add(&mut self, [line, oracle, port]: Answered) {
         let verdict = judge(&line, &oracle, &port);
-        self.counts[verdict as usize] += 1;
+        *match verdict {
+            Verdict::Same => &mut self.same,
+            Verdict::Different => &mut self.different,
+            Verdict::Excluded(departure) => self.excluded.entry(departure).or_default(),
+        } += 1;
         if let Some(number) = number(&port) {
             *self.ends.entry(number).or_default() += 1;
         }
@@ -44,14 +50,19 @@ impl Tally {
         if each.is_empty() { String::new() } else { format!("ended {}\n", each.join(", ")) }
     }
 
+    /// `excluded 5: NAME` for each departure that excludes a case.
+    pub fn departures(&self) -> String {
+        self.excluded.iter().map(|(name, count)| format!("excluded {count}: {name}\n")).collect()
+    }
+
     pub fn text(&self) -> String {
-        let [same, excluded, different] = self.counts;
-        format!("{} compared, {excluded} excluded, {different} differences", same + different)
+        let (compared, excluded) = (self.same + self.different, self.cases() - self.same - self.different);
+        format!("{compared} compared, {excluded} excluded, {} differences", self.different)
     }
 
     /// How many cases were answered.
     pub fn cases(&self) -> usize {
-        self.counts.iter().sum()
+        self.same + self.different + self.excluded.values().sum::<usize>()
     }
 }
 

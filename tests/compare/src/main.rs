@@ -4,6 +4,7 @@ mod cases;
 mod child;
 mod choices;
 mod compare;
+mod departures;
 mod due;
 mod exhaustive;
 mod generate;
@@ -50,7 +51,7 @@ fn run() -> Result<Tally, String> {
     let tally = compare(lines, EVERY)?;
     let seconds = begun.elapsed().as_secs();
     save(&tally)?;
-    print!("{}", tally.numbers());
+    print!("{}{}", tally.numbers(), tally.departures());
     if !title.is_empty() {
         print!("{} cases in {seconds} s, {title}", tally.cases());
     }

@@ -1,0 +1,31 @@
+//! The agreed departures from the Rust: cases for which another answer of the port is due than the Rust's.
+
+use crate::due::refusal;
+
+/// What is asked: the case line, and the number of the refusal that document 01 asks for, or 0.
+#[derive(Clone, Copy)]
+pub struct Asked<'a> {
+    pub line: &'a str,
+    pub refused: u32,
+}
+
+pub struct Departure {
+    pub name: &'static str,
+    /// Which cases it is about.
+    about: fn(Asked) -> bool,
+    /// The whole answer that is due then, by what was asked and what the Rust answered.
+    answer: fn(Asked, &str) -> String,
+}
+
+/// A row each. The first that is about a case decides.
+const DEPARTURES: [Departure; 1] = [Departure {
+    name: "the Rust panics or has no form, the port refuses",
+    about: |asked| asked.refused > 0,
+    answer: |asked, _| refusal(asked.line, asked.refused),
+}];
+
+/// The departure that is about a case, and the answer that is due by it.
+pub fn departure(asked: Asked, oracle: &str) -> Option<(&'static str, String)> {
+    let departure = DEPARTURES.iter().find(|departure| (departure.about)(asked))?;
+    Some((departure.name, (departure.answer)(asked, oracle)))
+}
