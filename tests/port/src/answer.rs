@@ -279,6 +279,25 @@ mod tests {
         }
     }
 
+    /// A read that writes a byte that it did not receive, or a word past its last entry.
+    #[test]
+    fn what_must_not_be_written_shows() {
+        let answered = |spoil: fn(&mut Lent, &mut [u8])| {
+            let (w, mut out) = (&mut Words::new("1 40 2 0 7 0 0 0 0 0 1 9"), String::new());
+            let (room, bytes) = (Room::read(w).unwrap(), w.bytes().unwrap());
+            let read = |lent: &mut Lent, bytes: &mut [u8]| {
+                let e = qspi::read(lent, bytes);
+                spoil(lent, bytes);
+                e
+            };
+            room.receive(w, &mut out, bytes, 0.., read).unwrap();
+            out.lines().rev().take_while(|line| !line.starts_with('g')).map(String::from).collect::<Vec<String>>()
+        };
+        assert_eq!(answered(|_, _| {}), ["m 00000000 09", "end 11 13 7 1 0"]);
+        assert_eq!(answered(|_, b| b[1] = 5), ["m 00000001 05", "m 00000000 09", "changed", "end 11 13 7 1 0"]);
+        assert_eq!(answered(|lent, _| lent.log[39] = 0), ["m 00000000 09", "changed", "end 11 13 7 1 0"]);
+    }
+
     #[test]
     fn names_and_ends() {
         let mut out = Vec::new();
