@@ -33,7 +33,7 @@ DECLARED = re.compile(
 )
 # A declaration in code; a variant or a field is a word at the start of its line.
 CODE = re.compile(
-    rf"\b(?:fn|struct|enum|trait|const|mod)\s+({NAME})|^\s*(?:pub\s+)?({NAME})(?:\(.*\)|\s*=.*)?[,:]"
+    rf"\b(?:fn|struct|enum|trait|const|static|mod)\s+({NAME})|^\s*(?:pub\s+)?({NAME})(?:\(.*\)|\s*=.*)?[,:]"
 )
 # The id of a row of docs/TRACE.md, and a reference to one.
 ID = r"[A-Z]+\d+(?:\.\d+)?"
