@@ -106,7 +106,8 @@ class Page:
             rf"|\(?\b(?P<crate>{crate}): (?P<at>[A-Z]\w*)\b\)?"
             rf"|\((?P<file>[A-Z]\w*)\)"
             rf"|\b(?P<crates>(?:{crate})(?:, (?:{crate}))*)(?=:\s)"
-            rf"|(?<![\w/])(?P<edited>{crate})/(?P<edits>[a-z0-9_]+(?:, [a-z0-9_]+(?=[,;|]|\s*$))*)"
+            rf"|(?<![\w/.])(?P<edited>{crate if listed else '(?!tests|docs|crates|bindings)[a-z_]+'})"
+            rf"/(?P<edits>[a-z0-9_]+(?:, [a-z0-9_]+(?=[,;|]|\s*$))*)"
             rf"|(?P<end>;)"
         )
 
@@ -168,7 +169,8 @@ class Page:
 
 def trace(tree, path):
     page = Page(tree, path, False)
-    columns = (("specs", page.in_crates), ("proofs", page.in_crates), ("specs", page.in_code), ("specs", page.in_crates))
+    specs, proofs, code = ("specs", page.in_crates), ("proofs", page.in_crates), ("specs", page.in_code)
+    columns = (specs, proofs, code, specs)
     rows = read(f"{ROOT}/{path}").split("\n")
     ids = {name for row in rows if row.startswith("|") for name in re.findall(ID, row.split("|")[1])}
     for page.line, row in enumerate(rows, 1):

@@ -1,7 +1,7 @@
 // Cases of the bus trait's calls and of chains.
 use super::failure::Failure;
 use super::fields::Fields;
-use super::text::{logged, on_memory, on_sheet};
+use super::text::{logged, on_bytes, on_memory};
 use std::alloc::Global;
 
 pub fn write(alloc: Global, mut f: Fields<'_>) -> Result<Vec<u8>, Failure> {
@@ -63,8 +63,12 @@ pub fn transaction(alloc: Global, mut f: Fields<'_>) -> Result<Vec<u8>, Failure>
     })
 }
 
+// The log of a sheet has 4,096 entries. Its memory begins behind its answers; bytes that are no sheet have none.
 pub fn sheet(alloc: Global, mut f: Fields<'_>) -> Result<Vec<u8>, Failure> {
     let given = f.bytes(alloc)?;
     f.end()?;
-    on_sheet(alloc, &given, |log, bytes| sheet_run::run(bytes, log))
+    let memory = sheet::open(&given).map_or(given.len(), |header| header.memory);
+    on_bytes(alloc, u32::MAX, memory, &given, |log, bytes| {
+        sheet_run::run(bytes, log)
+    })
 }

@@ -38,28 +38,23 @@ pub fn on_memory<F: FnOnce(&mut [u32], &mut [u8]) -> Progress>(
 ) -> Result<Vec<u8>, Failure>
     requires { F.IsAlwaysCallable call }
 {
-    let mut held = Vec::from_slice(alloc, given)?;
-    let mut log = [UNTOUCHED; LOG_WORDS];
-    let lent = LOG_WORDS.min(words as usize);
-    let progress = call(&mut log[..lent], &mut held);
-    let mut out = ended(alloc, &log, progress)?;
-    changes(&mut out, given, &held)?;
-    Ok(out)
+    on_bytes(alloc, words, 0, given, call)
 }
 
-// A call on a sheet's bytes, whose log has 4,096 entries: the memory of the sheet begins behind its answers; bytes that
-// are no sheet have none. Then `changed` if a byte before the memory is no longer what was given.
-pub fn on_sheet<F: FnOnce(&mut [u32], &mut [u8]) -> Progress>(
+// A call on bytes that are its memory from a place on. Then `changed` if a byte before it is no longer what was given.
+pub fn on_bytes<F: FnOnce(&mut [u32], &mut [u8]) -> Progress>(
     alloc: Global,
+    words: u32,
+    memory: usize,
     given: &[u8],
     call: F,
 ) -> Result<Vec<u8>, Failure>
     requires { F.IsAlwaysCallable call }
 {
-    let memory = sheet::open(given).map_or(given.len(), |h| h.memory);
     let mut held = Vec::from_slice(alloc, given)?;
     let mut log = [UNTOUCHED; LOG_WORDS];
-    let progress = call(&mut log, &mut held);
+    let lent = LOG_WORDS.min(words as usize);
+    let progress = call(&mut log[..lent], &mut held);
     let mut out = ended(alloc, &log, progress)?;
     let (before, given) = given.split_at_checked(memory).ok_or(Failure::NoCase)?;
     let (held_before, held) = held.split_at_checked(memory).ok_or(Failure::NoCase)?;

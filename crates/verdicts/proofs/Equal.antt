@@ -36,5 +36,6 @@ unfolding judged
 excluded_is_agreed case oracle library e = excluded_if (agreed case oracle library) _ e
 
 pub hypotheses_met : HypothesesMet
-unfolding judged agreed has_own oracles_own refusable refused refused_end refusing number_of is_hex value_of step digit_of in_32
+unfolding judged agreed has_own oracles_own refusable refused refused_end refusing
+    number_of is_hex value_of step digit_of in_32
 hypotheses_met = (refl, refl, refl)

@@ -1,5 +1,5 @@
--- The answer of a call that is refused, and that of the oracle where the Rust has none (tests/oracle/README.md says what
--- an answer is).
+-- The answer of a call that is refused, and that of the oracle where the Rust has none (tests/oracle/README.md says
+-- what an answer is).
 use Rattle.std.specs.Prelude.{ℕ, ◌-◌, Bool, false, not, cond, ◌&&◌, ◌||◌, List, [], ◌∷◌, length, take, drop, ◌==◌}
 use Rattle.std.specs.Prelude.{nat_eq, nat_le, bytes_eq, codes}
 use Rattle.std.specs.List.{starts_with, position_or_len, before_first, list_any, slice_split}

@@ -1,4 +1,4 @@
-// The verdict on a case: the oracle's answer against the library's, but for agreed departures; and the tally of verdicts.
+// The verdict on a case: the oracle's answer against the library's, but for agreed departures; the tally of verdicts.
 #![tactic(auto)]
 
 ghost use Rattle.std.specs.Prelude.{◌≡◌};
