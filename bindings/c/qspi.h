@@ -8,14 +8,17 @@
  * A place is a register's offset, or QSPI_MODULE_CLOCK + instance for the module clock register. An odd last word of the
  * log is never used.
  *
- * Numbers. A call gives a number (enum qspi_number) and writes four counts: `entries` made, answers `taken`, `polls`
- * (reads made to test readiness) and `longest` (the most unready polls in one wait). There are two ways to end:
- *   refused    (3 to 9, 12, 13) all four counts are 0, and nothing else that was lent is written;
+ * Numbers. A call gives a number (enum qspi_number) and writes its counts (struct qspi_counts); an opening writes its
+ * rate (*sck_hz) too, which is 0 unless the number is 0. For all else that was lent, there are two ways to end:
+ *   refused    (3 to 9, 13) all counts are 0, and nothing is written;
  *   otherwise  (0, 1, 2, 10, 11) the first 2 x entries words of the log are written, and each byte that was got is stored.
  *              All other words and bytes keep their values.
  * 10 and 11 are given at an access: where the next entry does not fit the log (10), or where it would be a read or a
  * byte got and no answer is left (11); 10 is tested first. That access does not happen. Where a comment below says
  * "at an access: 10, 11", it is these two.
+ *
+ * Functions of numbers alone (qspi_select_clock, qspi_actual_sck, qspi_dummy_bytes_for, qspi_default_limit) make no
+ * access: they are lent no log and no counts. One of them refuses, qspi_actual_sck by 12; it writes *rate then too, as 0.
  *
  * Limit. The unready poll with number `limit` in one wait ends the call with 1. Limit 0 is refused by 7. The Rust driver
  * has qspi_default_limit().
@@ -28,6 +31,7 @@
 #ifndef QSPI_H
 #define QSPI_H
 
+#include <assert.h> /* static_assert of C11; C++ has the word itself */
 #include <stdbool.h>
 #include <stddef.h>
 #include <stdint.h>
@@ -50,9 +54,20 @@ enum qspi_number {
     QSPI_WINDOW = 9,      /* a record's window outside the memory: start + length above its length */
     QSPI_LOG = 10,        /* log used up */
     QSPI_ANSWERS = 11,    /* answers used up */
-    QSPI_DIVIDER = 12,    /* no divider */
+    QSPI_DIVIDER = 12,    /* no divider; of qspi_actual_sck alone */
     QSPI_SHEET = 13       /* bytes that are no sheet */
 };
+
+/* The counts of a call: all 0 where it is refused. */
+struct qspi_counts {
+    uint64_t entries; /* entries made in the log */
+    uint64_t taken;   /* answers taken */
+    uint64_t polls;   /* reads made to test readiness */
+    uint64_t longest; /* the most unready polls in one wait */
+};
+#if defined(__cplusplus) || __STDC_VERSION__ >= 201112L
+static_assert(sizeof(struct qspi_counts) == 4 * sizeof(uint64_t), "the library writes these counts and nothing more");
+#endif
 
 /* What an entry of the log is. */
 enum qspi_op {
@@ -125,8 +140,7 @@ enum qspi_kind {
 uint32_t qspi_open(uint32_t limit, uint32_t *log, size_t log_len, const uint32_t *answers, size_t answers_len,
                    uint32_t instance, bool qpi, uint32_t pll_hz, uint32_t osc_hz, uint32_t freq, bool idle_high,
                    bool second_transition, bool master, uint32_t work_mode, bool bit_mode, bool lsb_first, bool cs,
-                   bool cs_idle_high, bool cs_high, bool cs_1, uint32_t *sck_hz, size_t *entries, size_t *taken,
-                   size_t *polls, uint32_t *longest);
+                   bool cs_idle_high, bool cs_high, bool cs_1, uint32_t *sck_hz, struct qspi_counts *counts);
 
 /*
  * Releases an instance: disables its clock and resets its module, by one change of the module clock register. An instance
@@ -134,7 +148,7 @@ uint32_t qspi_open(uint32_t limit, uint32_t *log, size_t log_len, const uint32_t
  * Gives at the access: 10, 11; else 0 with 2 entries and 1 answer taken.
  */
 uint32_t qspi_free(uint32_t *log, size_t log_len, const uint32_t *answers, size_t answers_len, uint32_t instance,
-                   size_t *entries, size_t *taken, size_t *polls, uint32_t *longest);
+                   struct qspi_counts *counts);
 
 /*
  * Writes all of `bytes` on a single line. No bytes: no access.
@@ -142,8 +156,7 @@ uint32_t qspi_free(uint32_t *log, size_t log_len, const uint32_t *answers, size_
  * the transfer's end; else 0.
  */
 uint32_t qspi_write(uint32_t limit, uint32_t *log, size_t log_len, const uint32_t *answers, size_t answers_len,
-                    const uint8_t *bytes, size_t bytes_len, size_t *entries, size_t *taken, size_t *polls,
-                    uint32_t *longest);
+                    const uint8_t *bytes, size_t bytes_len, struct qspi_counts *counts);
 
 /*
  * Reads `bytes_len` bytes into `bytes`. No bytes: no access.
@@ -152,30 +165,29 @@ uint32_t qspi_write(uint32_t limit, uint32_t *log, size_t log_len, const uint32_
  * Writes a byte of `bytes` when it is got; if the call ends before, the rest keep their values.
  */
 uint32_t qspi_read(uint32_t limit, uint32_t *log, size_t log_len, const uint32_t *answers, size_t answers_len,
-                   uint8_t *bytes, size_t bytes_len, size_t *entries, size_t *taken, size_t *polls, uint32_t *longest);
+                   uint8_t *bytes, size_t bytes_len, struct qspi_counts *counts);
 
 /*
  * Writes all of `write`, then reads all of `read`: as qspi_write, then as qspi_read.
  * Gives 7; 6 for more than QSPI_MAX_LENGTH bytes in either, before anything is written; then as the two calls.
  */
 uint32_t qspi_transfer(uint32_t limit, uint32_t *log, size_t log_len, const uint32_t *answers, size_t answers_len,
-                       uint8_t *read, size_t read_len, const uint8_t *write, size_t write_len, size_t *entries,
-                       size_t *taken, size_t *polls, uint32_t *longest);
+                       uint8_t *read, size_t read_len, const uint8_t *write, size_t write_len,
+                       struct qspi_counts *counts);
 
 /*
  * Writes `bytes` and reads as many back in their place, by parts of 256 bytes: each part is written, then read.
  * Gives 7; at an access: 10, 11; 1 in a wait; else 0. No length is refused.
  */
 uint32_t qspi_transfer_in_place(uint32_t limit, uint32_t *log, size_t log_len, const uint32_t *answers,
-                                size_t answers_len, uint8_t *bytes, size_t bytes_len, size_t *entries, size_t *taken,
-                                size_t *polls, uint32_t *longest);
+                                size_t answers_len, uint8_t *bytes, size_t bytes_len, struct qspi_counts *counts);
 
 /*
  * Waits for the transfer to complete.
  * Gives 7; at a poll: 10, 11; 1 at the unready poll number `limit`; else 0.
  */
 uint32_t qspi_flush(uint32_t limit, uint32_t *log, size_t log_len, const uint32_t *answers, size_t answers_len,
-                    size_t *entries, size_t *taken, size_t *polls, uint32_t *longest);
+                    struct qspi_counts *counts);
 
 /*
  * Waits for the transfer to complete, then changes the work mode. `qpi`: the chip has QPI; `mode`: enum qspi_work_mode.
@@ -183,7 +195,7 @@ uint32_t qspi_flush(uint32_t limit, uint32_t *log, size_t log_len, const uint32_
  * counts; else at an access: 10, 11; else 0.
  */
 uint32_t qspi_set_work_mode(uint32_t limit, uint32_t *log, size_t log_len, const uint32_t *answers, size_t answers_len,
-                            bool qpi, uint32_t mode, size_t *entries, size_t *taken, size_t *polls, uint32_t *longest);
+                            bool qpi, uint32_t mode, struct qspi_counts *counts);
 
 /*
  * Reads `data` on four lines, after `command` and its dummy bytes on one. `hz`: the rate of the bus; `tclqv_ns`: the time in
@@ -195,8 +207,7 @@ uint32_t qspi_set_work_mode(uint32_t limit, uint32_t *log, size_t log_len, const
  */
 uint32_t qspi_read_quad(uint32_t limit, uint32_t *log, size_t log_len, const uint32_t *answers, size_t answers_len,
                         uint32_t hz, const uint8_t *command, size_t command_len, uint32_t tclqv_ns, uint8_t margin,
-                        uint8_t *data, size_t data_len, size_t *entries, size_t *taken, size_t *polls,
-                        uint32_t *longest);
+                        uint8_t *data, size_t data_len, struct qspi_counts *counts);
 
 /*
  * Writes `data` on four lines, after `command` on one.
@@ -206,7 +217,7 @@ uint32_t qspi_read_quad(uint32_t limit, uint32_t *log, size_t log_len, const uin
  */
 uint32_t qspi_write_quad(uint32_t limit, uint32_t *log, size_t log_len, const uint32_t *answers, size_t answers_len,
                          const uint8_t *command, size_t command_len, const uint8_t *data, size_t data_len,
-                         size_t *entries, size_t *taken, size_t *polls, uint32_t *longest);
+                         struct qspi_counts *counts);
 
 /*
  * Runs a chain of records of kinds 1 to 5 (`words`, see enum qspi_kind) on the lent memory. The whole chain is tested before
@@ -216,8 +227,8 @@ uint32_t qspi_write_quad(uint32_t limit, uint32_t *log, size_t log_len, const ui
  * before any record; then as met at an access: 10, 11, or 1 in a wait; else 0. The first number other than 0 ends it.
  */
 uint32_t qspi_transaction(uint32_t limit, uint32_t *log, size_t log_len, const uint32_t *answers, size_t answers_len,
-                          uint8_t *memory, size_t memory_len, const uint32_t *words, size_t words_len, size_t *entries,
-                          size_t *taken, size_t *polls, uint32_t *longest);
+                          uint8_t *memory, size_t memory_len, const uint32_t *words, size_t words_len,
+                          struct qspi_counts *counts);
 
 /*
  * Runs a whole sheet: little-endian words limit, rate, QPI (0 or 1), record count, answer count; the records, of kinds 1 to
@@ -228,8 +239,7 @@ uint32_t qspi_transaction(uint32_t limit, uint32_t *log, size_t log_len, const u
  * Writes in `bytes` only what is got into the memory; header, records and answers keep their values.
  * Needs some 72,000 bytes of stack, far more than the other calls: it copies records and answers to a buffer.
  */
-uint32_t qspi_sheet(uint8_t *bytes, size_t bytes_len, uint32_t *log, size_t log_len, size_t *entries, size_t *taken,
-                    size_t *polls, uint32_t *longest);
+uint32_t qspi_sheet(uint8_t *bytes, size_t bytes_len, uint32_t *log, size_t log_len, struct qspi_counts *counts);
 
 /*
  * The dividers whose rate is nearest to a target, any 32-bit number: among equally near ones one not above the target, among

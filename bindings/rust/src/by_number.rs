@@ -16,7 +16,7 @@ pub struct Lent<'a> {
 }
 
 /// What counts hold before a call, so that one that is not written shows.
-const UNWRITTEN: Counts = Counts { entries: usize::MAX, taken: usize::MAX, polls: usize::MAX, longest: u32::MAX };
+const UNWRITTEN: Counts = Counts { entries: u64::MAX, taken: u64::MAX, polls: u64::MAX, longest: u64::MAX };
 
 /// Makes a call that gives a number and writes counts.
 fn counted(call: impl FnOnce(&mut Counts) -> u32) -> Ended {
@@ -37,10 +37,7 @@ macro_rules! made {
                 $lent.answers.as_ptr(),
                 $lent.answers.len(),
                 $($argument,)*
-                &mut counts.entries,
-                &mut counts.taken,
-                &mut counts.polls,
-                &mut counts.longest,
+                counts,
             )
         })
     };
@@ -106,17 +103,7 @@ pub fn open(lent: &mut Lent, o: &Opening) -> (Ended, u32) {
 pub fn free(log: &mut [u32], answers: &[u32], instance: u32) -> Ended {
     // SAFETY: every pointer and its length are those of a slice, and what is written is lent exclusively.
     counted(|counts| unsafe {
-        ffi::qspi_free(
-            log.as_mut_ptr(),
-            log.len(),
-            answers.as_ptr(),
-            answers.len(),
-            instance,
-            &mut counts.entries,
-            &mut counts.taken,
-            &mut counts.polls,
-            &mut counts.longest,
-        )
+        ffi::qspi_free(log.as_mut_ptr(), log.len(), answers.as_ptr(), answers.len(), instance, counts)
     })
 }
 
@@ -193,18 +180,7 @@ pub fn transaction(lent: &mut Lent, memory: &mut [u8], words: &[u32]) -> Ended {
 /// first. Gives 0, 1, 2, 7, 8, 9, 10, 11 or 13. It needs some 72,000 bytes of stack.
 pub fn sheet(bytes: &mut [u8], log: &mut [u32]) -> Ended {
     // SAFETY: every pointer and its length are those of a slice, and what is written is lent exclusively.
-    counted(|counts| unsafe {
-        ffi::qspi_sheet(
-            bytes.as_mut_ptr(),
-            bytes.len(),
-            log.as_mut_ptr(),
-            log.len(),
-            &mut counts.entries,
-            &mut counts.taken,
-            &mut counts.polls,
-            &mut counts.longest,
-        )
-    })
+    counted(|counts| unsafe { ffi::qspi_sheet(bytes.as_mut_ptr(), bytes.len(), log.as_mut_ptr(), log.len(), counts) })
 }
 
 /// The dividers nearest to a target: the module divider, the kind (1 Cdr1, 2 Cdr2) and its count.

@@ -1,4 +1,4 @@
-//! How a call ends: its number and its four counts.
+//! How a call ends: its number and its counts.
 
 use std::error::Error;
 use std::fmt;
@@ -93,18 +93,21 @@ impl fmt::Display for Number {
 
 impl Error for Number {}
 
-/// The four counts of a call.
+/// The counts of a call, as the library writes them.
 #[derive(Clone, Copy, Debug, Default, PartialEq, Eq, Hash)]
+#[repr(C)]
 pub struct Counts {
     /// Entries made in the log, two words each.
-    pub entries: usize,
+    pub entries: u64,
     /// Answers taken.
-    pub taken: usize,
+    pub taken: u64,
     /// Reads made to test readiness.
-    pub polls: usize,
+    pub polls: u64,
     /// The most unready polls in one wait.
-    pub longest: u32,
+    pub longest: u64,
 }
+
+const _: () = assert!(size_of::<Counts>() == 4 * size_of::<u64>(), "the library writes these counts and nothing more");
 
 /// How a call ended. It is shown as the last line that a sheet prints.
 #[must_use = "a call may have been refused or cut short"]

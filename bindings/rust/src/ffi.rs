@@ -4,6 +4,8 @@
 //! Those that take pointers are safe to call where each pointer and its length are those of a slice that is lent for the
 //! call, and where what is written overlaps nothing else.
 
+use crate::ended::Counts;
+
 unsafe extern "C" {
     pub fn qspi_open(
         limit: u32,
@@ -27,10 +29,7 @@ unsafe extern "C" {
         cs_high: bool,
         cs_1: bool,
         sck_hz: &mut u32,
-        entries: &mut usize,
-        taken: &mut usize,
-        polls: &mut usize,
-        longest: &mut u32,
+        counts: &mut Counts,
     ) -> u32;
     pub fn qspi_free(
         log: *mut u32,
@@ -38,10 +37,7 @@ unsafe extern "C" {
         answers: *const u32,
         answers_len: usize,
         instance: u32,
-        entries: &mut usize,
-        taken: &mut usize,
-        polls: &mut usize,
-        longest: &mut u32,
+        counts: &mut Counts,
     ) -> u32;
     pub fn qspi_write(
         limit: u32,
@@ -51,10 +47,7 @@ unsafe extern "C" {
         answers_len: usize,
         bytes: *const u8,
         bytes_len: usize,
-        entries: &mut usize,
-        taken: &mut usize,
-        polls: &mut usize,
-        longest: &mut u32,
+        counts: &mut Counts,
     ) -> u32;
     pub fn qspi_read(
         limit: u32,
@@ -64,10 +57,7 @@ unsafe extern "C" {
         answers_len: usize,
         bytes: *mut u8,
         bytes_len: usize,
-        entries: &mut usize,
-        taken: &mut usize,
-        polls: &mut usize,
-        longest: &mut u32,
+        counts: &mut Counts,
     ) -> u32;
     pub fn qspi_transfer(
         limit: u32,
@@ -79,10 +69,7 @@ unsafe extern "C" {
         read_len: usize,
         write: *const u8,
         write_len: usize,
-        entries: &mut usize,
-        taken: &mut usize,
-        polls: &mut usize,
-        longest: &mut u32,
+        counts: &mut Counts,
     ) -> u32;
     pub fn qspi_transfer_in_place(
         limit: u32,
@@ -92,10 +79,7 @@ unsafe extern "C" {
         answers_len: usize,
         bytes: *mut u8,
         bytes_len: usize,
-        entries: &mut usize,
-        taken: &mut usize,
-        polls: &mut usize,
-        longest: &mut u32,
+        counts: &mut Counts,
     ) -> u32;
     pub fn qspi_flush(
         limit: u32,
@@ -103,10 +87,7 @@ unsafe extern "C" {
         log_len: usize,
         answers: *const u32,
         answers_len: usize,
-        entries: &mut usize,
-        taken: &mut usize,
-        polls: &mut usize,
-        longest: &mut u32,
+        counts: &mut Counts,
     ) -> u32;
     pub fn qspi_set_work_mode(
         limit: u32,
@@ -116,10 +97,7 @@ unsafe extern "C" {
         answers_len: usize,
         qpi: bool,
         mode: u32,
-        entries: &mut usize,
-        taken: &mut usize,
-        polls: &mut usize,
-        longest: &mut u32,
+        counts: &mut Counts,
     ) -> u32;
     pub fn qspi_read_quad(
         limit: u32,
@@ -134,10 +112,7 @@ unsafe extern "C" {
         margin: u8,
         data: *mut u8,
         data_len: usize,
-        entries: &mut usize,
-        taken: &mut usize,
-        polls: &mut usize,
-        longest: &mut u32,
+        counts: &mut Counts,
     ) -> u32;
     pub fn qspi_write_quad(
         limit: u32,
@@ -149,10 +124,7 @@ unsafe extern "C" {
         command_len: usize,
         data: *const u8,
         data_len: usize,
-        entries: &mut usize,
-        taken: &mut usize,
-        polls: &mut usize,
-        longest: &mut u32,
+        counts: &mut Counts,
     ) -> u32;
     pub fn qspi_transaction(
         limit: u32,
@@ -164,21 +136,9 @@ unsafe extern "C" {
         memory_len: usize,
         words: *const u32,
         words_len: usize,
-        entries: &mut usize,
-        taken: &mut usize,
-        polls: &mut usize,
-        longest: &mut u32,
+        counts: &mut Counts,
     ) -> u32;
-    pub fn qspi_sheet(
-        bytes: *mut u8,
-        bytes_len: usize,
-        log: *mut u32,
-        log_len: usize,
-        entries: &mut usize,
-        taken: &mut usize,
-        polls: &mut usize,
-        longest: &mut u32,
-    ) -> u32;
+    pub fn qspi_sheet(bytes: *mut u8, bytes_len: usize, log: *mut u32, log_len: usize, counts: &mut Counts) -> u32;
     pub safe fn qspi_select_clock(pll: u32, target: u32, mod_div: &mut u32, kind: &mut u32, count: &mut u32);
     pub safe fn qspi_actual_sck(pll: u32, mod_div: u32, kind: u32, count: u32, rate: &mut u32) -> u32;
     pub safe fn qspi_dummy_bytes_for(hz: u32, tclqv_ns: u32, margin: u8) -> u8;

@@ -1,7 +1,7 @@
 //! Safe functions over the proved QSPI library (`bindings/build`).
 //!
 //! No call touches a register. A call is lent the words that the registers answer, and a log that it writes what it did
-//! into ([`Lent`]); it says how it ended by a number and four counts ([`Ended`]). [`Ended::log`] reads the log back.
+//! into ([`Lent`]); it says how it ended by a number and its counts ([`Ended`]). [`Ended::log`] reads the log back.
 //!
 //! ```
 //! let mut log = [0; 6];

@@ -96,7 +96,7 @@ impl ExactSizeIterator for Entries<'_> {}
 impl Ended {
     /// Splits the log that was lent to the call: the words of its entries, and those that it left alone.
     pub fn split<'a>(&self, log: &'a [u32]) -> (&'a [u32], &'a [u32]) {
-        log.split_at(self.counts.entries.saturating_mul(2).min(log.len()))
+        log.split_at(self.counts.entries.saturating_mul(2).min(log.len() as u64) as usize)
     }
 
     /// The entries that the call made in the log that was lent to it.
@@ -127,6 +127,6 @@ mod tests {
         assert_eq!(ended(0).log(&log).count(), 0);
         assert_eq!(ended(2).log(&log).len(), 2);
         assert_eq!(ended(2).split(&log).1, [7]);
-        assert_eq!(ended(usize::MAX).log(&log).count(), 2);
+        assert_eq!(ended(u64::MAX).log(&log).count(), 2);
     }
 }

@@ -1,18 +1,24 @@
--- A number and four counts: those of a progress, and the state that they say.
+-- What a caller by C names is told of a call: its number and its counts, beside the lent log and the lent memory.
 use Rattle.std.specs.Prelude.{◌≡◌, List, ℕ}
 use Rattle.model.specs.State.{State}
 use Rattle.access.specs.declared.progress.Progress.{Progress}
-use Rattle.access.specs.Of.{number_in}
+use Rattle.access.specs.Of.{state_of}
+use Rattle.counts.specs.declared.Counts.{Counts}
 
--- the number and the counts of a progress
-pub record Told (p : Progress) (number entries taken polls longest : ℕ) : Type 0 where
-  pub numbered : number ≡ number_in p
-  pub made : entries ≡ p.entries
-  pub answered : taken ≡ p.taken
-  pub polled : polls ≡ p.tally.polls
-  pub waited : longest ≡ p.tally.longest
+pub record Told : Type 0 where
+  pub number : ℕ
+  pub counts : Counts
+  pub log : List ℕ
+  pub memory : List ℕ
 
--- the state that a number, four counts, a log and a memory say
-abbrev pub state_of : ℕ → ℕ → ℕ → ℕ → ℕ → List ℕ → List ℕ → State
-state_of number entries taken polls longest log m =
-    record { number = number; entries = entries; taken = taken; tally = record { polls = polls; longest = longest }; log = log; memory = m }
+-- the counts of a state
+abbrev pub counts_of : State → Counts
+counts_of st = record { entries = st.entries; taken = st.taken; polls = st.tally.polls; longest = st.tally.longest }
+
+-- what is told of a state
+unfoldable pub told_of : State → Told
+told_of st = record { number = st.number; counts = counts_of st; log = st.log; memory = st.memory }
+
+-- the number and the counts of what a call came to, with any log and any memory
+pub record Tells (p : Progress) (number : ℕ) (counts : Counts) : Type 0 where
+  pub told : (log m : List ℕ) → record { number = number; counts = counts; log = log; memory = m } ≡ told_of (state_of p log m)

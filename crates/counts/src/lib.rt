@@ -1,23 +1,34 @@
-// The number of a call and its four counts, as a caller by C names gets them.
+// The number of a call and its counts, as a caller by C names gets them.
 #![tactic(auto)]
 
-ghost use Rattle.counts.specs.Told.{Told};
+ghost use Rattle.counts.specs.Told.{Tells};
 
 use access::Progress;
 
+// The counts of a call: in C `struct qspi_counts`, of the same fields in the same order.
+#[repr(C)]
+#[derive(Clone, Copy)]
+pub struct Counts {
+    // Entries made.
+    pub entries: u64,
+    // Answers taken.
+    pub taken: u64,
+    // Reads made to test readiness.
+    pub polls: u64,
+    // The most unready polls in one wait.
+    pub longest: u64,
+}
+
 // Writes the counts and gives the number.
-pub fn tell(
-    p: Progress,
-    entries: &mut usize,
-    taken: &mut usize,
-    polls: &mut usize,
-    longest: &mut u32,
-) -> u32
-    ensures { Told p result entries.new taken.new polls.new longest.new }
+#[tactic(auto, unfolding(crate::specs::Told::told_of))]
+pub fn tell(p: Progress, counts: &mut Counts) -> u32
+    ensures { Tells p result counts.new }
 {
-    *entries = p.entries;
-    *taken = p.taken;
-    *polls = p.tally.polls;
-    *longest = p.tally.longest;
+    *counts = Counts {
+        entries: p.entries as u64,
+        taken: p.taken as u64,
+        polls: p.tally.polls as u64,
+        longest: p.tally.longest as u64,
+    };
     p.number()
 }

@@ -1,20 +1,19 @@
 -- What an exported call gives: its number, its counts, the log and the memory, as the call's definition says.
-use Rattle.std.specs.Prelude.{◌≡◌, List, ℕ, Option}
+use Rattle.std.specs.Prelude.{◌≡◌, List, ℕ}
 use Rattle.model.specs.State.{State}
-use Rattle.opening.specs.declared.Opening.{Opening}
-use Rattle.counts.specs.Told.{state_of}
-use Rattle.numbered.specs.Calls.{opening_outcome}
+use Rattle.opening.specs.Call.{Result}
+use Rattle.counts.specs.declared.Counts.{Counts}
+use Rattle.counts.specs.Told.{told_of}
 
 -- a call that leaves the memory alone; its definition gives `outcome` of any memory
-pub record Gives (outcome : List ℕ → State) (log' : List ℕ) (number entries taken polls longest : ℕ) : Type 0 where
-  pub state : (m : List ℕ) → state_of number entries taken polls longest log' m ≡ outcome m
+pub record Gives (outcome : List ℕ → State) (log' : List ℕ) (number : ℕ) (counts : Counts) : Type 0 where
+  pub told : (m : List ℕ) → record { number = number; counts = counts; log = log'; memory = m } ≡ told_of (outcome m)
 
 -- a call on a lent memory, which is m' now; its definition gives `outcome`
-pub record GivesOn (outcome : State) (log' m' : List ℕ) (number entries taken polls longest : ℕ) : Type 0 where
-  pub state : state_of number entries taken polls longest log' m' ≡ outcome
+pub record GivesOn (outcome : State) (log' m' : List ℕ) (number : ℕ) (counts : Counts) : Type 0 where
+  pub told : record { number = number; counts = counts; log = log'; memory = m' } ≡ told_of outcome
 
--- an opening, whose configuration is numbers, with its rate
-pub record GivesOpening (found : Option Opening) (limit : ℕ) (answers log log' : List ℕ)
-    (rate number entries taken polls longest : ℕ) : Type 0 where
-  pub result : (m : List ℕ)
-      → record { state = state_of number entries taken polls longest log' m; rate = rate } ≡ opening_outcome found limit answers log m
+-- an opening, with its rate
+pub record GivesOpening (outcome : List ℕ → Result) (log' : List ℕ) (rate number : ℕ) (counts : Counts) : Type 0 where
+  pub opened : Gives (λ m. (outcome m).state) log' number counts
+  pub rated : (m : List ℕ) → rate ≡ (outcome m).rate

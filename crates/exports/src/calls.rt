@@ -1,11 +1,11 @@
-// The calls of the bus. Each gives its number and writes its four counts: entries made, answers taken, polls, longest.
+// The calls of the bus. Each gives its number and writes its counts.
 ghost use Rattle.bus.specs.Calls.{Call, outcome};
 ghost use Rattle.config.specs.Config.{work_mode_of};
 ghost use Rattle.numbered.specs.Calls.{mode_outcome};
 ghost use Rattle.exports.specs.Calls.{Gives, GivesOn};
 ghost use Rattle.std.specs.Prelude.{length};
 
-use counts::tell;
+use counts::{Counts, tell};
 
 // Writes all the bytes on a single line.
 pub fn qspi_write(
@@ -13,15 +13,12 @@ pub fn qspi_write(
     log: &mut [u32],
     answers: &[u32],
     bytes: &[u8],
-    entries: &mut usize,
-    taken: &mut usize,
-    polls: &mut usize,
-    longest: &mut u32,
+    counts: &mut Counts,
 ) -> u32
-    ensures { Gives (outcome (Call.write bytes.now) limit answers.now log.old) log.new result entries.new taken.new polls.new longest.new }
+    ensures { Gives (outcome (Call.write bytes.now) limit answers.now log.old) log.new result counts.new }
 {
     let p = bus::spi_bus::write(limit, log, answers, bytes);
-    tell(p, entries, taken, polls, longest)
+    tell(p, counts)
 }
 
 // Reads as many bytes as there is room for.
@@ -30,15 +27,12 @@ pub fn qspi_read(
     log: &mut [u32],
     answers: &[u32],
     bytes: &mut [u8],
-    entries: &mut usize,
-    taken: &mut usize,
-    polls: &mut usize,
-    longest: &mut u32,
+    counts: &mut Counts,
 ) -> u32
-    ensures { GivesOn (outcome (Call.read (length bytes.old)) limit answers.now log.old bytes.old) log.new bytes.new result entries.new taken.new polls.new longest.new }
+    ensures { GivesOn (outcome (Call.read (length bytes.old)) limit answers.now log.old bytes.old) log.new bytes.new result counts.new }
 {
     let p = bus::spi_bus::read(limit, log, answers, bytes);
-    tell(p, entries, taken, polls, longest)
+    tell(p, counts)
 }
 
 // Writes all of `write`, then reads all of `read`.
@@ -48,31 +42,20 @@ pub fn qspi_transfer(
     answers: &[u32],
     read: &mut [u8],
     write: &[u8],
-    entries: &mut usize,
-    taken: &mut usize,
-    polls: &mut usize,
-    longest: &mut u32,
+    counts: &mut Counts,
 ) -> u32
-    ensures { GivesOn (outcome (Call.transfer write.now (length read.old)) limit answers.now log.old read.old) log.new read.new result entries.new taken.new polls.new longest.new }
+    ensures { GivesOn (outcome (Call.transfer write.now (length read.old)) limit answers.now log.old read.old) log.new read.new result counts.new }
 {
     let p = bus::spi_bus::transfer(limit, log, answers, read, write);
-    tell(p, entries, taken, polls, longest)
+    tell(p, counts)
 }
 
 // Waits for the transfer to complete.
-pub fn qspi_flush(
-    limit: u32,
-    log: &mut [u32],
-    answers: &[u32],
-    entries: &mut usize,
-    taken: &mut usize,
-    polls: &mut usize,
-    longest: &mut u32,
-) -> u32
-    ensures { Gives (outcome Call.flush limit answers.now log.old) log.new result entries.new taken.new polls.new longest.new }
+pub fn qspi_flush(limit: u32, log: &mut [u32], answers: &[u32], counts: &mut Counts) -> u32
+    ensures { Gives (outcome Call.flush limit answers.now log.old) log.new result counts.new }
 {
     let p = bus::spi_bus::flush(limit, log, answers);
-    tell(p, entries, taken, polls, longest)
+    tell(p, counts)
 }
 
 // Writes and reads back the bytes, by parts.
@@ -81,15 +64,12 @@ pub fn qspi_transfer_in_place(
     log: &mut [u32],
     answers: &[u32],
     bytes: &mut [u8],
-    entries: &mut usize,
-    taken: &mut usize,
-    polls: &mut usize,
-    longest: &mut u32,
+    counts: &mut Counts,
 ) -> u32
-    ensures { GivesOn (outcome (Call.transfer_in_place (length bytes.old)) limit answers.now log.old bytes.old) log.new bytes.new result entries.new taken.new polls.new longest.new }
+    ensures { GivesOn (outcome (Call.transfer_in_place (length bytes.old)) limit answers.now log.old bytes.old) log.new bytes.new result counts.new }
 {
     let p = bus::spi_bus::transfer_in_place(limit, log, answers, bytes);
-    tell(p, entries, taken, polls, longest)
+    tell(p, counts)
 }
 
 // Reads `data` on four lines, after `command` and its dummy bytes on one. `hz`: the rate of the bus.
@@ -102,15 +82,12 @@ pub fn qspi_read_quad(
     tclqv_ns: u32,
     margin: u8,
     data: &mut [u8],
-    entries: &mut usize,
-    taken: &mut usize,
-    polls: &mut usize,
-    longest: &mut u32,
+    counts: &mut Counts,
 ) -> u32
-    ensures { GivesOn (outcome (Call.read_quad hz command.now tclqv_ns margin (length «data».old)) limit answers.now log.old «data».old) log.new «data».new result entries.new taken.new polls.new longest.new }
+    ensures { GivesOn (outcome (Call.read_quad hz command.now tclqv_ns margin (length «data».old)) limit answers.now log.old «data».old) log.new «data».new result counts.new }
 {
     let p = bus::quad_spi_bus::read_quad(limit, log, answers, hz, command, tclqv_ns, margin, data);
-    tell(p, entries, taken, polls, longest)
+    tell(p, counts)
 }
 
 // Writes `data` on four lines, after `command` on one.
@@ -120,15 +97,12 @@ pub fn qspi_write_quad(
     answers: &[u32],
     command: &[u8],
     data: &[u8],
-    entries: &mut usize,
-    taken: &mut usize,
-    polls: &mut usize,
-    longest: &mut u32,
+    counts: &mut Counts,
 ) -> u32
-    ensures { Gives (outcome (Call.write_quad command.now «data».now) limit answers.now log.old) log.new result entries.new taken.new polls.new longest.new }
+    ensures { Gives (outcome (Call.write_quad command.now «data».now) limit answers.now log.old) log.new result counts.new }
 {
     let p = bus::quad_spi_bus::write_quad(limit, log, answers, command, data);
-    tell(p, entries, taken, polls, longest)
+    tell(p, counts)
 }
 
 // Changes the work mode, by its number. `qpi`: the chip has QPI.
@@ -138,13 +112,10 @@ pub fn qspi_set_work_mode(
     answers: &[u32],
     qpi: bool,
     mode: u32,
-    entries: &mut usize,
-    taken: &mut usize,
-    polls: &mut usize,
-    longest: &mut u32,
+    counts: &mut Counts,
 ) -> u32
-    ensures { Gives (mode_outcome (work_mode_of mode) qpi limit answers.now log.old) log.new result entries.new taken.new polls.new longest.new }
+    ensures { Gives (mode_outcome (work_mode_of mode) qpi limit answers.now log.old) log.new result counts.new }
 {
     let p = numbered::set_numbered_mode(limit, qpi, log, answers, mode);
-    tell(p, entries, taken, polls, longest)
+    tell(p, counts)
 }

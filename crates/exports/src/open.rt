@@ -1,13 +1,13 @@
 // Opening and release of a bus, whose configuration is numbers.
 ghost use Rattle.config.specs.Config.{work_mode_of};
 ghost use Rattle.config_numbers.specs.Settings.{ctrl_mode_of, cs_of, mode_of, config_of};
+ghost use Rattle.numbered.specs.Calls.{opening_outcome, opening_with};
 ghost use Rattle.opening.specs.Call.{releases};
-ghost use Rattle.numbered.specs.Calls.{opening_with};
 ghost use Rattle.exports.specs.Calls.{Gives, GivesOpening};
 ghost use Rattle.std.specs.Prelude.{ℕ};
 
 use config_numbers::ConfigNumbers;
-use counts::tell;
+use counts::{Counts, tell};
 use opening::{ClockTree, Opening};
 
 // Opens the bus of an instance and writes its rate, which is 0 unless the number is 0. `qpi`: the chip has QPI; `work_mode`: its number.
@@ -31,12 +31,9 @@ pub fn qspi_open(
     cs_high: bool,
     cs_1: bool,
     sck_hz: &mut u32,
-    entries: &mut usize,
-    taken: &mut usize,
-    polls: &mut usize,
-    longest: &mut u32,
+    counts: &mut Counts,
 ) -> u32
-    ensures { GivesOpening (opening_with instance qpi (record { pll_fra0 = pll_hz; osc_24m = osc_hz }) (config_of (work_mode_of work_mode) freq (mode_of idle_high second_transition) (ctrl_mode_of master) bit_mode lsb_first (cs_of cs cs_idle_high cs_high cs_1))) limit answers.now log.old log.new sck_hz.new result entries.new taken.new polls.new longest.new }
+    ensures { GivesOpening (opening_outcome (opening_with instance qpi (record { pll_fra0 = pll_hz; osc_24m = osc_hz }) (config_of (work_mode_of work_mode) freq (mode_of idle_high second_transition) (ctrl_mode_of master) bit_mode lsb_first (cs_of cs cs_idle_high cs_high cs_1))) limit answers.now log.old) log.new sck_hz.new result counts.new }
 {
     let numbers = ConfigNumbers {
         freq,
@@ -63,21 +60,13 @@ pub fn qspi_open(
     });
     let opened = numbered::open_found(limit, log, answers, found);
     *sck_hz = opened.sck_hz.unwrap_or(0);
-    tell(opened.progress, entries, taken, polls, longest)
+    tell(opened.progress, counts)
 }
 
 // Disables the clock of an instance and resets its module. It has no wait: its contract holds at every limit.
-pub fn qspi_free(
-    log: &mut [u32],
-    answers: &[u32],
-    instance: u32,
-    entries: &mut usize,
-    taken: &mut usize,
-    polls: &mut usize,
-    longest: &mut u32,
-) -> u32
-    ensures { (limit : ℕ) → Gives (releases instance limit answers.now log.old) log.new result entries.new taken.new polls.new longest.new }
+pub fn qspi_free(log: &mut [u32], answers: &[u32], instance: u32, counts: &mut Counts) -> u32
+    ensures { (limit : ℕ) → Gives (releases instance limit answers.now log.old) log.new result counts.new }
 {
     let p = opening::free(instance, log, answers);
-    tell(p, entries, taken, polls, longest)
+    tell(p, counts)
 }

@@ -2,7 +2,7 @@
 ghost use Rattle.chain.specs.Transaction.{outcome, transaction};
 ghost use Rattle.exports.specs.Calls.{GivesOn};
 
-use counts::tell;
+use counts::{Counts, tell};
 
 // Operations on the lent memory: records of eight words, kinds 1 to 5, checked along the chain before any access.
 pub fn qspi_transaction(
@@ -11,13 +11,10 @@ pub fn qspi_transaction(
     answers: &[u32],
     memory: &mut [u8],
     words: &[u32],
-    entries: &mut usize,
-    taken: &mut usize,
-    polls: &mut usize,
-    longest: &mut u32,
+    counts: &mut Counts,
 ) -> u32
-    ensures { GivesOn (outcome (transaction words.now) limit answers.now log.old memory.old) log.new memory.new result entries.new taken.new polls.new longest.new }
+    ensures { GivesOn (outcome (transaction words.now) limit answers.now log.old memory.old) log.new memory.new result counts.new }
 {
     let p = chain::transaction(limit, log, answers, memory, words);
-    tell(p, entries, taken, polls, longest)
+    tell(p, counts)
 }

@@ -1,9 +1,11 @@
-// The calls of the bus. Each gives its number and writes its four counts: entries made, answers taken, polls, longest.
+// The calls of the bus. Each gives its number and writes its counts.
 ghost use Rattle.bus.specs.Calls.{Call, outcome};
 ghost use Rattle.config.specs.Config.{work_mode_of};
 ghost use Rattle.numbered.specs.Calls.{mode_outcome};
 ghost use Rattle.exports.specs.Calls.{Gives, GivesOn};
 ghost use Rattle.std.specs.Prelude.{length};
+
+use counts::Counts;
 
 // Writes all the bytes on a single line.
 #[unsafe(no_mangle)]
@@ -12,14 +14,11 @@ pub extern "C" fn qspi_write(
     log: &mut [u32],
     answers: &[u32],
     bytes: &[u8],
-    entries: &mut usize,
-    taken: &mut usize,
-    polls: &mut usize,
-    longest: &mut u32,
+    counts: &mut Counts,
 ) -> u32
-    ensures { Gives (outcome (Call.write bytes.now) limit answers.now log.old) log.new result entries.new taken.new polls.new longest.new }
+    ensures { Gives (outcome (Call.write bytes.now) limit answers.now log.old) log.new result counts.new }
 {
-    exports::calls::qspi_write(limit, log, answers, bytes, entries, taken, polls, longest)
+    exports::calls::qspi_write(limit, log, answers, bytes, counts)
 }
 
 // Reads as many bytes as there is room for.
@@ -29,14 +28,11 @@ pub extern "C" fn qspi_read(
     log: &mut [u32],
     answers: &[u32],
     bytes: &mut [u8],
-    entries: &mut usize,
-    taken: &mut usize,
-    polls: &mut usize,
-    longest: &mut u32,
+    counts: &mut Counts,
 ) -> u32
-    ensures { GivesOn (outcome (Call.read (length bytes.old)) limit answers.now log.old bytes.old) log.new bytes.new result entries.new taken.new polls.new longest.new }
+    ensures { GivesOn (outcome (Call.read (length bytes.old)) limit answers.now log.old bytes.old) log.new bytes.new result counts.new }
 {
-    exports::calls::qspi_read(limit, log, answers, bytes, entries, taken, polls, longest)
+    exports::calls::qspi_read(limit, log, answers, bytes, counts)
 }
 
 // Writes all of `write`, then reads all of `read`.
@@ -47,16 +43,11 @@ pub extern "C" fn qspi_transfer(
     answers: &[u32],
     read: &mut [u8],
     write: &[u8],
-    entries: &mut usize,
-    taken: &mut usize,
-    polls: &mut usize,
-    longest: &mut u32,
+    counts: &mut Counts,
 ) -> u32
-    ensures { GivesOn (outcome (Call.transfer write.now (length read.old)) limit answers.now log.old read.old) log.new read.new result entries.new taken.new polls.new longest.new }
+    ensures { GivesOn (outcome (Call.transfer write.now (length read.old)) limit answers.now log.old read.old) log.new read.new result counts.new }
 {
-    exports::calls::qspi_transfer(
-        limit, log, answers, read, write, entries, taken, polls, longest,
-    )
+    exports::calls::qspi_transfer(limit, log, answers, read, write, counts)
 }
 
 // Waits for the transfer to complete.
@@ -65,14 +56,11 @@ pub extern "C" fn qspi_flush(
     limit: u32,
     log: &mut [u32],
     answers: &[u32],
-    entries: &mut usize,
-    taken: &mut usize,
-    polls: &mut usize,
-    longest: &mut u32,
+    counts: &mut Counts,
 ) -> u32
-    ensures { Gives (outcome Call.flush limit answers.now log.old) log.new result entries.new taken.new polls.new longest.new }
+    ensures { Gives (outcome Call.flush limit answers.now log.old) log.new result counts.new }
 {
-    exports::calls::qspi_flush(limit, log, answers, entries, taken, polls, longest)
+    exports::calls::qspi_flush(limit, log, answers, counts)
 }
 
 // Writes and reads back the bytes, by parts.
@@ -82,16 +70,11 @@ pub extern "C" fn qspi_transfer_in_place(
     log: &mut [u32],
     answers: &[u32],
     bytes: &mut [u8],
-    entries: &mut usize,
-    taken: &mut usize,
-    polls: &mut usize,
-    longest: &mut u32,
+    counts: &mut Counts,
 ) -> u32
-    ensures { GivesOn (outcome (Call.transfer_in_place (length bytes.old)) limit answers.now log.old bytes.old) log.new bytes.new result entries.new taken.new polls.new longest.new }
+    ensures { GivesOn (outcome (Call.transfer_in_place (length bytes.old)) limit answers.now log.old bytes.old) log.new bytes.new result counts.new }
 {
-    exports::calls::qspi_transfer_in_place(
-        limit, log, answers, bytes, entries, taken, polls, longest,
-    )
+    exports::calls::qspi_transfer_in_place(limit, log, answers, bytes, counts)
 }
 
 // Reads `data` on four lines, after `command` and its dummy bytes on one. `hz`: the rate of the bus.
@@ -105,15 +88,12 @@ pub extern "C" fn qspi_read_quad(
     tclqv_ns: u32,
     margin: u8,
     data: &mut [u8],
-    entries: &mut usize,
-    taken: &mut usize,
-    polls: &mut usize,
-    longest: &mut u32,
+    counts: &mut Counts,
 ) -> u32
-    ensures { GivesOn (outcome (Call.read_quad hz command.now tclqv_ns margin (length «data».old)) limit answers.now log.old «data».old) log.new «data».new result entries.new taken.new polls.new longest.new }
+    ensures { GivesOn (outcome (Call.read_quad hz command.now tclqv_ns margin (length «data».old)) limit answers.now log.old «data».old) log.new «data».new result counts.new }
 {
     exports::calls::qspi_read_quad(
-        limit, log, answers, hz, command, tclqv_ns, margin, data, entries, taken, polls, longest,
+        limit, log, answers, hz, command, tclqv_ns, margin, data, counts,
     )
 }
 
@@ -125,16 +105,11 @@ pub extern "C" fn qspi_write_quad(
     answers: &[u32],
     command: &[u8],
     data: &[u8],
-    entries: &mut usize,
-    taken: &mut usize,
-    polls: &mut usize,
-    longest: &mut u32,
+    counts: &mut Counts,
 ) -> u32
-    ensures { Gives (outcome (Call.write_quad command.now «data».now) limit answers.now log.old) log.new result entries.new taken.new polls.new longest.new }
+    ensures { Gives (outcome (Call.write_quad command.now «data».now) limit answers.now log.old) log.new result counts.new }
 {
-    exports::calls::qspi_write_quad(
-        limit, log, answers, command, data, entries, taken, polls, longest,
-    )
+    exports::calls::qspi_write_quad(limit, log, answers, command, data, counts)
 }
 
 // Changes the work mode, by its number. `qpi`: the chip has QPI.
@@ -145,14 +120,9 @@ pub extern "C" fn qspi_set_work_mode(
     answers: &[u32],
     qpi: bool,
     mode: u32,
-    entries: &mut usize,
-    taken: &mut usize,
-    polls: &mut usize,
-    longest: &mut u32,
+    counts: &mut Counts,
 ) -> u32
-    ensures { Gives (mode_outcome (work_mode_of mode) qpi limit answers.now log.old) log.new result entries.new taken.new polls.new longest.new }
+    ensures { Gives (mode_outcome (work_mode_of mode) qpi limit answers.now log.old) log.new result counts.new }
 {
-    exports::calls::qspi_set_work_mode(
-        limit, log, answers, qpi, mode, entries, taken, polls, longest,
-    )
+    exports::calls::qspi_set_work_mode(limit, log, answers, qpi, mode, counts)
 }

@@ -1,10 +1,12 @@
 // Opening and release of a bus, whose configuration is numbers.
 ghost use Rattle.config.specs.Config.{work_mode_of};
 ghost use Rattle.config_numbers.specs.Settings.{ctrl_mode_of, cs_of, mode_of, config_of};
+ghost use Rattle.numbered.specs.Calls.{opening_outcome, opening_with};
 ghost use Rattle.opening.specs.Call.{releases};
-ghost use Rattle.numbered.specs.Calls.{opening_with};
 ghost use Rattle.exports.specs.Calls.{Gives, GivesOpening};
 ghost use Rattle.std.specs.Prelude.{ℕ};
+
+use counts::Counts;
 
 // Opens the bus of an instance and writes its rate, which is 0 unless the number is 0. `qpi`: the chip has QPI; `work_mode`: its number.
 #[unsafe(no_mangle)]
@@ -28,12 +30,9 @@ pub extern "C" fn qspi_open(
     cs_high: bool,
     cs_1: bool,
     sck_hz: &mut u32,
-    entries: &mut usize,
-    taken: &mut usize,
-    polls: &mut usize,
-    longest: &mut u32,
+    counts: &mut Counts,
 ) -> u32
-    ensures { GivesOpening (opening_with instance qpi (record { pll_fra0 = pll_hz; osc_24m = osc_hz }) (config_of (work_mode_of work_mode) freq (mode_of idle_high second_transition) (ctrl_mode_of master) bit_mode lsb_first (cs_of cs cs_idle_high cs_high cs_1))) limit answers.now log.old log.new sck_hz.new result entries.new taken.new polls.new longest.new }
+    ensures { GivesOpening (opening_outcome (opening_with instance qpi (record { pll_fra0 = pll_hz; osc_24m = osc_hz }) (config_of (work_mode_of work_mode) freq (mode_of idle_high second_transition) (ctrl_mode_of master) bit_mode lsb_first (cs_of cs cs_idle_high cs_high cs_1))) limit answers.now log.old) log.new sck_hz.new result counts.new }
 {
     exports::open::qspi_open(
         limit,
@@ -55,10 +54,7 @@ pub extern "C" fn qspi_open(
         cs_high,
         cs_1,
         sck_hz,
-        entries,
-        taken,
-        polls,
-        longest,
+        counts,
     )
 }
 
@@ -68,12 +64,9 @@ pub extern "C" fn qspi_free(
     log: &mut [u32],
     answers: &[u32],
     instance: u32,
-    entries: &mut usize,
-    taken: &mut usize,
-    polls: &mut usize,
-    longest: &mut u32,
+    counts: &mut Counts,
 ) -> u32
-    ensures { (limit : ℕ) → Gives (releases instance limit answers.now log.old) log.new result entries.new taken.new polls.new longest.new }
+    ensures { (limit : ℕ) → Gives (releases instance limit answers.now log.old) log.new result counts.new }
 {
-    exports::open::qspi_free(log, answers, instance, entries, taken, polls, longest)
+    exports::open::qspi_free(log, answers, instance, counts)
 }

@@ -2,6 +2,8 @@
 ghost use Rattle.chain.specs.Transaction.{outcome, transaction};
 ghost use Rattle.exports.specs.Calls.{GivesOn};
 
+use counts::Counts;
+
 // Operations on the lent memory: records of eight words, kinds 1 to 5, checked along the chain before any access.
 #[unsafe(no_mangle)]
 pub extern "C" fn qspi_transaction(
@@ -10,14 +12,9 @@ pub extern "C" fn qspi_transaction(
     answers: &[u32],
     memory: &mut [u8],
     words: &[u32],
-    entries: &mut usize,
-    taken: &mut usize,
-    polls: &mut usize,
-    longest: &mut u32,
+    counts: &mut Counts,
 ) -> u32
-    ensures { GivesOn (outcome (transaction words.now) limit answers.now log.old memory.old) log.new memory.new result entries.new taken.new polls.new longest.new }
+    ensures { GivesOn (outcome (transaction words.now) limit answers.now log.old memory.old) log.new memory.new result counts.new }
 {
-    exports::transaction::qspi_transaction(
-        limit, log, answers, memory, words, entries, taken, polls, longest,
-    )
+    exports::transaction::qspi_transaction(limit, log, answers, memory, words, counts)
 }

@@ -20,10 +20,9 @@ impl<'a> Lent<'a> {
 }
 
 fn ended(e: qspi::Ended) -> Ended {
-    (
-        e.number.get(),
-        Counts { entries: e.counts.entries, taken: e.counts.taken, polls: e.counts.polls, longest: e.counts.longest },
-    )
+    let c = e.counts;
+    let [entries, taken, polls] = [c.entries, c.taken, c.polls].map(|n| n as usize);
+    (e.number.get(), Counts { entries, taken, polls, longest: c.longest as u32 })
 }
 
 fn lent<'a>(l: &'a mut Lent) -> library::Lent<'a> {

@@ -16,7 +16,7 @@ static uint32_t opened(uint32_t limit, size_t log_len, size_t answers_len, const
     rate = UINT32_MAX;
     return qspi_open(limit, log_words, log_len, zeros, answers_len, o->instance, o->qpi, 1200000000u, 24000000u,
                      10000000u, o->idle_high, o->second_transition, o->master, o->work_mode, o->bit_mode, o->lsb_first,
-                     o->cs, o->cs_idle_high, o->cs_high, o->cs_1, &rate, TOLD);
+                     o->cs, o->cs_idle_high, o->cs_high, o->cs_1, &rate, &counts);
 }
 
 void test_open(void) {
@@ -83,42 +83,42 @@ void test_open_refused(void) {
 
 void test_free(void) {
     const uint32_t set[] = {0xFFFFFFFF};
-    ENDED(qspi_free(LOG, set, 1, 0, TOLD), QSPI_DONE, 2, 1, 0, 0);
+    ENDED(qspi_free(LOG, set, 1, 0, &counts), QSPI_DONE, 2, 1, 0, 0);
     CHECK(values(QSPI_WRITE, QSPI_MODULE_CLOCK).together == 0xFFFFCEFF);
     lend();
-    ENDED(qspi_free(LOG, set, 1, UINT32_MAX, TOLD), QSPI_DONE, 2, 1, 0, 0);
+    ENDED(qspi_free(LOG, set, 1, UINT32_MAX, &counts), QSPI_DONE, 2, 1, 0, 0);
     CHECK(values(QSPI_WRITE, QSPI_MODULE_CLOCK + 3).count == 1);
     lend();
-    ENDED(qspi_free(log_words, 1, set, 1, 0, TOLD), QSPI_LOG, 0, 0, 0, 0);
-    ENDED(qspi_free(LOG, set, 0, 0, TOLD), QSPI_ANSWERS, 0, 0, 0, 0);
+    ENDED(qspi_free(log_words, 1, set, 1, 0, &counts), QSPI_LOG, 0, 0, 0, 0);
+    ENDED(qspi_free(LOG, set, 0, 0, &counts), QSPI_ANSWERS, 0, 0, 0, 0);
 }
 
 /* P11: two unready polls and a ready one; three unready ones. */
 void test_flush(void) {
     const uint32_t answers[] = {START, START, 0}, unready[] = {START, START, START, 0};
-    ENDED(qspi_flush(3, LOG, answers, 3, TOLD), QSPI_DONE, 3, 3, 3, 2);
+    ENDED(qspi_flush(3, LOG, answers, 3, &counts), QSPI_DONE, 3, 3, 3, 2);
     CHECK(values(QSPI_READ, 0x008).count == 3);
     lend();
-    ENDED(qspi_flush(3, LOG, unready, 4, TOLD), QSPI_TIMEOUT, 3, 3, 3, 3);
+    ENDED(qspi_flush(3, LOG, unready, 4, &counts), QSPI_TIMEOUT, 3, 3, 3, 3);
     lend();
-    ENDED(qspi_flush(3, log_words, 5, answers, 3, TOLD), QSPI_LOG, 2, 2, 2, 2);
+    ENDED(qspi_flush(3, log_words, 5, answers, 3, &counts), QSPI_LOG, 2, 2, 2, 2);
     lend();
-    ENDED(qspi_flush(3, LOG, answers, 2, TOLD), QSPI_ANSWERS, 2, 2, 2, 2);
+    ENDED(qspi_flush(3, LOG, answers, 2, &counts), QSPI_ANSWERS, 2, 2, 2, 2);
     lend();
-    REFUSED(qspi_flush(0, LOG, answers, 3, TOLD), QSPI_LIMIT);
+    REFUSED(qspi_flush(0, LOG, answers, 3, &counts), QSPI_LIMIT);
 }
 
 void test_mode(void) {
     for (uint32_t mode = QSPI_STANDARD; mode < QSPI_QPI_MODE; mode++) {
         lend();
-        ENDED(qspi_set_work_mode(1, LOG, zeros, WORDS, false, mode, TOLD), QSPI_DONE, 5, 3, 1, 0);
+        ENDED(qspi_set_work_mode(1, LOG, zeros, WORDS, false, mode, &counts), QSPI_DONE, 5, 3, 1, 0);
     }
     lend();
-    ENDED(qspi_set_work_mode(1, LOG, zeros, WORDS, true, QSPI_QPI_MODE, TOLD), QSPI_DONE, 3, 2, 1, 0);
+    ENDED(qspi_set_work_mode(1, LOG, zeros, WORDS, true, QSPI_QPI_MODE, &counts), QSPI_DONE, 3, 2, 1, 0);
     CHECK(values(QSPI_WRITE, 0x038).together == (1u << 29 | 1u << 31));
     lend();
-    ENDED(qspi_set_work_mode(1, LOG, zeros, WORDS, false, QSPI_QPI_MODE, TOLD), QSPI_UNSUPPORTED, 1, 1, 1, 0);
+    ENDED(qspi_set_work_mode(1, LOG, zeros, WORDS, false, QSPI_QPI_MODE, &counts), QSPI_UNSUPPORTED, 1, 1, 1, 0);
     lend();
-    REFUSED(qspi_set_work_mode(1, LOG, zeros, WORDS, true, 7, TOLD), QSPI_CHAIN);
-    REFUSED(qspi_set_work_mode(0, LOG, zeros, WORDS, true, 7, TOLD), QSPI_LIMIT);
+    REFUSED(qspi_set_work_mode(1, LOG, zeros, WORDS, true, 7, &counts), QSPI_CHAIN);
+    REFUSED(qspi_set_work_mode(0, LOG, zeros, WORDS, true, 7, &counts), QSPI_LIMIT);
 }

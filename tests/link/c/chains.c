@@ -10,13 +10,13 @@ void test_transaction(void) {
         QSPI_KIND_DELAY, 9, 0, 0, 0, 0, 0, 0,
     };
     uint8_t memory[] = {5, 6, 7, 8};
-    ENDED(qspi_transaction(3, LOG, ones, 20, memory, sizeof memory, words, 16, TOLD), QSPI_DONE, 36, 20, 7, 0);
+    ENDED(qspi_transaction(3, LOG, ones, 20, memory, sizeof memory, words, 16, &counts), QSPI_DONE, 36, 20, 7, 0);
     CHECK(memcmp(memory, (const uint8_t[]){1, 1, 1, 8}, sizeof memory) == 0);
     CHECK(values(QSPI_BYTE_WRITTEN, 0x200).together == (6 | 7 | 8));
     CHECK(log_words[70] == (uint32_t)QSPI_DELAY << 16 && log_words[71] == 4);
     lend();
-    ENDED(qspi_transaction(3, LOG, ones, 20, memory, 0, words, 0, TOLD), QSPI_DONE, 0, 0, 0, 0);
-    REFUSED(qspi_transaction(0, LOG, ones, 20, memory, sizeof memory, words, 16, TOLD), QSPI_LIMIT);
+    ENDED(qspi_transaction(3, LOG, ones, 20, memory, 0, words, 0, &counts), QSPI_DONE, 0, 0, 0, 0);
+    REFUSED(qspi_transaction(0, LOG, ones, 20, memory, sizeof memory, words, 16, &counts), QSPI_LIMIT);
 }
 
 void test_chains_refused(void) {
@@ -34,7 +34,7 @@ void test_chains_refused(void) {
     };
     uint8_t memory[] = {5, 6, 7, 8};
     for (size_t i = 0; i < sizeof refused / sizeof *refused; i++) {
-        REFUSED(qspi_transaction(1, LOG, ones, WORDS, memory, 4, refused[i].words, refused[i].count, TOLD),
+        REFUSED(qspi_transaction(1, LOG, ones, WORDS, memory, 4, refused[i].words, refused[i].count, &counts),
                 refused[i].number);
         CHECK(memcmp(memory, (const uint8_t[]){5, 6, 7, 8}, sizeof memory) == 0);
     }
@@ -72,7 +72,7 @@ void test_sheet(void) {
     uint8_t bytes[85], given[85];
     *put(bytes, sample, 21) = 0x9f;
     memcpy(given, bytes, sizeof bytes);
-    ENDED(qspi_sheet(bytes, sizeof bytes, LOG, TOLD), QSPI_DONE, 15, 8, 3, 0);
+    ENDED(qspi_sheet(bytes, sizeof bytes, LOG, &counts), QSPI_DONE, 15, 8, 3, 0);
     CHECK(memcmp(log_words, sample_log, sizeof sample_log) == 0);
     CHECK(memcmp(bytes, given, sizeof bytes) == 0);
 }
@@ -80,16 +80,16 @@ void test_sheet(void) {
 void test_no_sheets(void) {
     static uint8_t bytes[QSPI_SHEET_BYTES + 1];
     *put(bytes, sample, 21) = 0x9f;
-    REFUSED(qspi_sheet(bytes, 0, LOG, TOLD), QSPI_SHEET);
-    REFUSED(qspi_sheet(bytes, 83, LOG, TOLD), QSPI_SHEET);
-    REFUSED(qspi_sheet(bytes, sizeof bytes, LOG, TOLD), QSPI_SHEET);
+    REFUSED(qspi_sheet(bytes, 0, LOG, &counts), QSPI_SHEET);
+    REFUSED(qspi_sheet(bytes, 83, LOG, &counts), QSPI_SHEET);
+    REFUSED(qspi_sheet(bytes, sizeof bytes, LOG, &counts), QSPI_SHEET);
     /* Without its memory the record's window is outside. */
-    REFUSED(qspi_sheet(bytes, 84, LOG, TOLD), QSPI_WINDOW);
+    REFUSED(qspi_sheet(bytes, 84, LOG, &counts), QSPI_WINDOW);
     bytes[8] = 2;
-    REFUSED(qspi_sheet(bytes, 85, LOG, TOLD), QSPI_SHEET);
+    REFUSED(qspi_sheet(bytes, 85, LOG, &counts), QSPI_SHEET);
     bytes[8] = 0;
     bytes[20] = 10;
-    REFUSED(qspi_sheet(bytes, 85, LOG, TOLD), QSPI_CHAIN);
+    REFUSED(qspi_sheet(bytes, 85, LOG, &counts), QSPI_CHAIN);
     bytes[0] = 0;
-    REFUSED(qspi_sheet(bytes, 85, LOG, TOLD), QSPI_LIMIT);
+    REFUSED(qspi_sheet(bytes, 85, LOG, &counts), QSPI_LIMIT);
 }

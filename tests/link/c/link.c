@@ -1,12 +1,14 @@
 /* Calls every function of the header, and holds its answers to document 01. */
 #include "link.h"
 
+#include <inttypes.h>
 #include <stdio.h>
+#include <string.h>
 
 uint32_t log_words[WORDS];
 const uint32_t zeros[WORDS];
 uint32_t ones[WORDS];
-struct told told;
+struct qspi_counts counts;
 
 /* Checks of the running test that do not hold. */
 static unsigned faults;
@@ -15,7 +17,8 @@ void check(bool holds, const char *what, const char *file, int line) {
     if (!holds) {
         faults++;
         printf("%s:%d: not so: %s\n", file, line, what);
-        printf("    told: %zu %zu %zu %u\n", told.entries, told.taken, told.polls, (unsigned)told.longest);
+        printf("    counts: %" PRIu64 " %" PRIu64 " %" PRIu64 " %" PRIu64 "\n", counts.entries, counts.taken,
+               counts.polls, counts.longest);
     }
 }
 
@@ -24,15 +27,16 @@ void lend(void) {
         log_words[i] = UNTOUCHED;
         ones[i] = 1;
     }
-    told = (struct told){SIZE_MAX, SIZE_MAX, SIZE_MAX, UINT32_MAX};
+    memset(&counts, UNTOUCHED_BYTE, sizeof counts);
 }
 
-bool call_ended(uint32_t number, uint32_t expected, size_t entries, size_t taken, size_t polls, uint32_t longest) {
-    if (number != expected || told.entries != entries || told.taken != taken || told.polls != polls ||
-        told.longest != longest) {
+bool call_ended(uint32_t number, uint32_t expected, uint64_t entries, uint64_t taken, uint64_t polls,
+                uint64_t longest) {
+    if (number != expected || counts.entries != entries || counts.taken != taken || counts.polls != polls ||
+        counts.longest != longest) {
         return false;
     }
-    for (size_t i = 2 * entries; i < WORDS; i++) {
+    for (size_t i = 2 * (size_t)entries; i < WORDS; i++) {
         if (log_words[i] != UNTOUCHED) {
             return false;
         }
@@ -42,7 +46,7 @@ bool call_ended(uint32_t number, uint32_t expected, size_t entries, size_t taken
 
 struct values values(enum qspi_op op, uint32_t place) {
     struct values found = {0, 0};
-    for (size_t i = 0; i < told.entries && i < WORDS / 2; i++) {
+    for (size_t i = 0; i < counts.entries && i < WORDS / 2; i++) {
         uint32_t first = log_words[2 * i];
         if (QSPI_OP(first) == (uint32_t)op && QSPI_PLACE(first) == place) {
             found.together |= log_words[2 * i + 1];

@@ -13,21 +13,14 @@
 
 #define WORDS 4000
 
-/* The counts that a call writes. */
-struct told {
-    size_t entries, taken, polls;
-    uint32_t longest;
-};
-
 /* What calls are lent. */
 extern uint32_t log_words[WORDS];
 extern const uint32_t zeros[WORDS];
 extern uint32_t ones[WORDS]; /* all ready, one byte got at a time */
-extern struct told told;
+extern struct qspi_counts counts;
 
-/* The arguments that most calls begin and end with. */
+/* The arguments that most calls begin with. */
 #define LOG log_words, WORDS
-#define TOLD &told.entries, &told.taken, &told.polls, &told.longest
 
 #define CHECK(what) check((what), #what, __FILE__, __LINE__)
 #define ENDED(number, expected, entries, taken, polls, longest) \
@@ -39,8 +32,9 @@ void check(bool holds, const char *what, const char *file, int line);
 /* Makes what is lent ready for the next call. */
 void lend(void);
 
-/* Whether the call that `lend` was called for gave `expected` and told these counts, and wrote the log no further. */
-bool call_ended(uint32_t number, uint32_t expected, size_t entries, size_t taken, size_t polls, uint32_t longest);
+/* Whether the call that `lend` was called for gave `expected` and these counts, and wrote the log no further. */
+bool call_ended(uint32_t number, uint32_t expected, uint64_t entries, uint64_t taken, uint64_t polls,
+                uint64_t longest);
 
 /* The values entered by an op at a place, all put together by `or`, and how many they are. */
 struct values {

@@ -1,4 +1,5 @@
-//! The functions as they are declared in C (the header), in Rust (the package) and in Rattle (the crates), in one form.
+//! The functions, and the struct of the counts, as they are declared in C (the header), in Rust (the package) and in
+//! Rattle (the crates), in one form.
 #![forbid(unsafe_code)]
 
 use std::collections::BTreeMap;
@@ -15,6 +16,9 @@ pub struct Function {
 
 /// Functions by their names.
 pub type Functions = BTreeMap<String, Function>;
+
+/// The fields of a struct in their order, each with name and type.
+pub type Fields = Vec<(String, String)>;
 
 fn is_name(c: char) -> bool {
     c.is_ascii_alphanumeric() || c == '_'
@@ -49,10 +53,12 @@ fn listed(parameters: &str) -> impl Iterator<Item = &str> {
 fn from_c(spelled: &str) -> String {
     let plain = spelled.replace("const", "").replace('*', "");
     let plain = match plain.trim() {
+        "uint64_t" => "u64",
         "uint32_t" => "u32",
         "uint8_t" => "u8",
         "size_t" => "usize",
         "void" => "()",
+        "struct qspi_counts" => "Counts",
         other => other,
     };
     match (spelled.contains('*'), spelled.contains("const")) {
@@ -62,18 +68,46 @@ fn from_c(spelled: &str) -> String {
     }
 }
 
+/// The name and the type of what C declares by both.
+fn named_in_c(declared: &str) -> (String, String) {
+    let name = declared.rsplit(|c| !is_name(c)).next().unwrap_or_default();
+    (String::from(name), from_c(declared.strip_suffix(name).unwrap_or(declared)))
+}
+
+/// What stands between the braces of the struct that begins with these words.
+fn body<'a>(text: &'a str, words: &str) -> &'a str {
+    let (_, rest) = text.split_once(&format!("{words} {{")).unwrap_or_default();
+    rest.split_once('}').map_or("", |(body, _)| body)
+}
+
+/// The fields of the counts in a C header.
+pub fn counts_in_c(text: &str) -> Fields {
+    let text = without(text, "/*", "*/");
+    let fields = body(&text, "struct qspi_counts").split(';').map(str::trim);
+    fields.filter(|field| !field.is_empty()).map(named_in_c).collect()
+}
+
+/// The fields of the counts in Rust text, or in Rattle's, where they lie as they do in C.
+pub fn counts_in_rust(text: &str) -> Fields {
+    let text = without(text, "//", "\n");
+    let (before, _) = text.split_once("pub struct Counts {").unwrap_or_default();
+    let laid_out = before.rsplit(['}', ';']).next().is_some_and(|attributes| attributes.contains("#[repr(C)]"));
+    let field = |declared: &str| {
+        let (name, kind) = declared.trim().strip_prefix("pub ")?.split_once(": ")?;
+        laid_out.then(|| (String::from(name), String::from(kind)))
+    };
+    listed(body(&text, "pub struct Counts")).filter_map(field).collect()
+}
+
 /// The functions of a C header.
 pub fn in_c(text: &str) -> Functions {
     let text = without(&without(text, "/*", "*/"), "#", "\n");
     let mut functions = Functions::new();
     for statement in text.split([';', '{', '}']) {
         let Some((head, rest)) = statement.split_once('(') else { continue };
-        let (gives, name) = head.trim().rsplit_once(char::is_whitespace).unwrap_or_default();
-        let parameter = |p: &str| {
-            let name = p.rsplit(|c| !is_name(c)).next().unwrap_or_default();
-            (String::from(name), from_c(p.strip_suffix(name).unwrap_or(p)))
-        };
-        let parameters = listed(rest.trim_end().trim_end_matches(')')).map(parameter).collect();
+        // (a static assertion has no type before it)
+        let Some((gives, name)) = head.trim().rsplit_once(char::is_whitespace) else { continue };
+        let parameters = listed(rest.trim_end().trim_end_matches(')')).map(named_in_c).collect();
         functions.insert(String::from(name), Function { parameters, gives: from_c(gives) });
     }
     functions

@@ -1,6 +1,7 @@
-//! The header, the package, the Rattle functions and the library have the same functions.
+//! The header, the package, the Rattle functions and the library have the same functions; the first three have the same
+//! counts.
 
-use crate::{Functions, in_c, in_rattle, in_rust, without};
+use crate::{Functions, counts_in_c, counts_in_rust, in_c, in_rattle, in_rust, without};
 use std::collections::BTreeSet;
 use std::fs;
 use std::path::{Path, PathBuf};
@@ -72,6 +73,14 @@ fn the_header_declares_what_the_library_has() {
 }
 
 #[test]
+fn the_counts_have_the_same_fields_in_the_same_order() {
+    let rattle = counts_in_rust(&text("crates/counts/src/lib.rt"));
+    assert!(!rattle.is_empty());
+    assert_eq!(counts_in_c(&text("bindings/c/qspi.h")), rattle);
+    assert_eq!(counts_in_rust(&text("bindings/rust/src/ended.rs")), rattle);
+}
+
+#[test]
 fn every_function_has_a_comment() {
     let text = text("bindings/c/qspi.h");
     for name in header().keys() {
@@ -132,4 +141,18 @@ fn declarations_are_read() {
     assert_eq!(in_c(c)["g"].gives, "()");
     assert_ne!(in_c(c), in_c(&c.replace("const ", "")));
     assert_ne!(in_c(c), in_c(&c.replace("bool", "uint8_t")));
+}
+
+#[test]
+fn fields_are_read_in_their_order() {
+    let c =
+        "struct qspi_counts {\n uint64_t entries; /* a */\n uint64_t taken;\n};\nstatic_assert(sizeof(x) == 2, \"\");";
+    let rust =
+        "struct A {}\n/// Two.\n#[repr(C)]\npub struct Counts {\n /// a, b\n pub entries: u64,\n pub taken: u64,\n}\n";
+    let field = |name| (String::from(name), String::from("u64"));
+    assert_eq!(counts_in_c(c), [field("entries"), field("taken")]);
+    assert_eq!(counts_in_rust(rust), counts_in_c(c));
+    assert!(in_c(c).is_empty());
+    assert_ne!(counts_in_c(c), counts_in_c(&c.replace("uint64_t taken", "uint32_t taken")));
+    assert!(counts_in_rust(&rust.replace("#[repr(C)]\n", "")).is_empty());
 }
