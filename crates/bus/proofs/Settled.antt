@@ -1,11 +1,13 @@
 -- The settled instances, computed.
 use mathlib.Core.Path.{refl}
+use native.Mathlib.Omega.{arith}
 use Rattle.model.specs.Field.{get_field, set_field}
 use Rattle.model.specs.Event.{head_of, value_of, answer_of, answers_of, receive, words, stored}
 use Rattle.model.specs.Tally.{plus, poll_tally, tally_event, tally_of}
 use Rattle.model.specs.Steps.{then, finally, change, wait_for}
 use Rattle.model.specs.Run.{entered, answered, poll, run}
 use Rattle.model.specs.State.{room_of, ran, onward, advance, called}
+use Rattle.model.proofs.Called.{refusal_not_met}
 use Rattle.qspi.specs.Phases.{reset_fifos, program_transfer, start_transfer, begin_transfer, moved, moved_all, paced, gots, tx_phase, rx_phase}
 use Rattle.mode.specs.Mode.{lines, qpi_mode, mode_changes, work_mode_steps}
 use Rattle.transfer.specs.Transfer.{transfer_steps, part_steps, parts, in_place_steps}
@@ -54,4 +56,5 @@ hypotheses_met =
       unsupported = refl;
       too_long = refl;
       limit_0 = refl;
+      refused = refusal_not_met 7 (omega arith) (omega arith);
     }

@@ -1,6 +1,7 @@
 -- Settled instances: where a call is cut, what is ready for which wait, what follows data that failed; and instances of what the laws ask for.
 use Rattle.std.specs.Prelude.{◌≡◌, true, false, List, [], ◌∷◌, ◌++◌, ℕ, ◌*◌, replicate}
 use Rattle.model.specs.State.{State}
+use Rattle.model.specs.Ends.{Met}
 use Rattle.config.specs.declared.config.WorkMode.TheVariants.{Qpi}
 use Rattle.bus.specs.Calls.{Call, outcome}
 use Rattle.bus.specs.Calls.Call.{write, read, transfer_in_place, flush, set_work_mode, read_quad}
@@ -69,3 +70,5 @@ pub record HypothesesMet : Type 0 where
   -- calls that end in 6 and in 7
   pub too_long : (outcome (read 0x1000000) 1 [] [] []).number ≡ 6
   pub limit_0 : (outcome flush 0 [] [] []).number ≡ 7
+  -- one that ends in a number that no steps end in
+  pub refused : Met (outcome flush 0 [] [] []).number → ⊥

@@ -8,7 +8,8 @@ use native.Mathlib.Omega.{arith}
 use lib.Dec.{eqb}
 use lib.ListN.{length}
 use borrow.Author.Tests.{ne_eqb}
-use Rattle.model.proofs.Called.{called_refused, called_runs, another_limit_first}
+use Rattle.model.proofs.Called.{called_refused, called_runs, others_touch_nothing}
+use Rattle.model.proofs.Refusable.{limited_steady, another_limit_called}
 use Rattle.std.proofs.Common.{Bor, MutBor}
 use Rattle.std.specs.Prelude.{Result, Ok, Err}
 use Rattle.std.specs.Int.NonZero.{non_zero_u32_get}
@@ -29,7 +30,7 @@ use Rattle.records.specs.Laws.{EachFault}
 use Rattle.records.proofs.Lengths.{fault_numbers}
 use Rattle.chain.specs.Chain.{chain_steps}
 use Rattle.chain.specs.Transaction.{Request, first_fault, refusal, outcome, FaultNumber, Transacts}
-use Rattle.chain.specs.Laws.{ChainAgain, ChainRefused}
+use Rattle.chain.specs.Laws.{refusable, ChainSteady, ChainAgain, ChainRefused, ChainUntouched}
 use Rattle.chain.proofs.Running.{not_fine, finds, steps_in}
 
 -- the number of what the check finds is the refusal
@@ -95,13 +96,22 @@ never_two highest memory ws h =
     let z = (found_not (checked highest memory ws) 2 (fault_numbers highest memory ws) (omega arith) h).0 in
     omega (arith, z)
 
+pub chain_steady : ChainSteady
+chain_steady c memory =
+    let found = checked c.highest memory c.words in
+    limited_steady (number_of (verdict found)) (chain_steps c.rate c.qpi (chain_of found))
+    (never_two c.highest memory c.words)
+
 pub chain_again : ChainAgain
 unfolding outcome refusal
 chain_again c limit limit' answers more log m =
-    let found = checked c.highest (length m) c.words in
-    another_limit_first (number_of (verdict found)) (chain_steps c.rate c.qpi (chain_of found)) limit limit' answers more log m
-    (never_two c.highest (length m) c.words)
+    another_limit_called (refusable c (length m)) (chain_steady c (length m)) limit limit' answers more log m
 
 pub chain_refused : ChainRefused
 unfolding outcome
 chain_refused c limit answers log m i = called_refused (steps_in c m) limit answers log m i
+
+pub chain_untouched : ChainUntouched
+unfolding outcome
+chain_untouched c limit answers log m =
+    others_touch_nothing (refusal limit (finds c m)) (steps_in c m) limit answers log m

@@ -8,6 +8,7 @@ use Rattle.model.specs.Tally.{plus, poll_tally, tally_event, tally_of}
 use Rattle.model.specs.Steps.{then, finally, change, wait_for}
 use Rattle.model.specs.Run.{entered, answered, poll, run}
 use Rattle.model.specs.State.{room_of, ran, onward, advance, called}
+use Rattle.model.proofs.Called.{refusal_not_met}
 use Rattle.qspi.specs.Phases.{reset_fifos, program_transfer, start_transfer, begin_transfer, moved, moved_all, paced, gots, tx_phase, rx_phase}
 use Rattle.mode.specs.Mode.{lines, qpi_mode, mode_changes, work_mode_steps}
 use Rattle.transfer.specs.Transfer.{transfer_steps, part_steps, parts, in_place_steps}
@@ -24,8 +25,20 @@ unfolding get_field set_field head_of value_of answer_of answers_of receive rece
     tx_phase rx_phase lines qpi_mode mode_changes work_mode_steps framed quad_mode standard_mode quad_start quad_steps window read_quad_windows write_quad_windows out_of_range
     extents_fault windows_fault record_fault records_in along checked record_steps chain_steps refusal outcome write_window transfer_windows transfer_steps
     in_place_steps parts part_steps delay_cycles
-computed =
-    (record { ended = inl refl; unready = omega arith; late = refl; unsupported = refl; received = refl; refused = λ h. omega (arith, h) }, refl)
+computed = (
+  record {
+    ended = inl refl;
+    unready = omega arith;
+    late = refl;
+    unsupported = refl;
+    received = refl;
+    refused = λ h. omega (arith, h);
+    not_met = refusal_not_met 7 (omega arith) (omega arith);
+    accepted = refl;
+    records = refl;
+  },
+  refl,
+)
 
 pub hypotheses_met : HypothesesMet
 hypotheses_met = computed.0

@@ -1,13 +1,26 @@
 -- Demand 3 for a chain as one run, what a refusal leaves, and which fields of a record matter.
 use Rattle.std.specs.Prelude.{◌≡◌, Bool, true, false, not, ◌&&◌, List, [], ◌∷◌, ◌++◌, map, ℕ, ◌<◌, eqb, length, get_or, set, replicate}
 use Rattle.model.specs.State.{State, begun, with_number}
+use Rattle.model.specs.Ends.{Met}
+use Rattle.model.specs.Called.{Untouched}
 use Rattle.model.specs.Limit.{Ended, AgainCall}
+use Rattle.model.specs.Refusable.{Refusable, limited, Steady}
 use Rattle.records.specs.Kinds.{kind_of}
 use Rattle.std.specs.List.{list_any}
-use Rattle.records.specs.Check.{checked}
+use Rattle.records.specs.Check.{checked, verdict, number_of, chain_of}
 use Rattle.records.specs.Laws.{Alike}
-use Rattle.chain.specs.Chain.{record_steps}
+use Rattle.chain.specs.Chain.{record_steps, chain_steps}
 use Rattle.chain.specs.Transaction.{Request, refusal, outcome, transaction}
+
+-- a chain on a memory of that length, as model lifts laws to it: refused by 7 at limit 0, then by its first fault; its
+-- outcome is what is made of this
+abbrev pub refusable : Request → ℕ → Refusable
+refusable c memory =
+    let found = checked c.highest memory c.words in
+    limited (number_of (verdict found)) (chain_steps c.rate c.qpi (chain_of found))
+
+abbrev pub ChainSteady : Type 0
+ChainSteady = (c : Request) (memory : ℕ) → Steady (refusable c memory)
 
 abbrev pub ChainAgain : Type 0
 ChainAgain =
@@ -19,6 +32,12 @@ abbrev pub ChainRefused : Type 0
 ChainRefused =
     (c : Request) (limit : ℕ) (answers log m : List ℕ) → let n = refusal limit (checked c.highest (length m) c.words) in
     (n ≡ 0 → ⊥) → outcome c limit answers log m ≡ with_number n (begun log m)
+
+-- By its number: a chain that ends in a number that no steps end in has touched neither.
+abbrev pub ChainUntouched : Type 0
+ChainUntouched =
+    (c : Request) (limit : ℕ) (answers log m : List ℕ) → (Met (outcome c limit answers log m).number → ⊥)
+    → Untouched log m (outcome c limit answers log m)
 
 -- A transaction never gives 2: kinds 1 to 5 set no mode.
 abbrev pub TransactionNever2 : Type 0
@@ -74,3 +93,7 @@ pub record HypothesesMet : Type 0 where
   pub unsupported : quads.number ≡ 2
   pub received : quads.memory ≡ 0x9f ∷ 0x5a ∷ []
   pub refused : refusal 0 (checked 9 0 []) ≡ 0 → ⊥
+  pub not_met : Met (flushed 0).number → ⊥
+  -- the quad records are not refused, and are three
+  pub accepted : refusal 2 (checked 9 2 quad_words) ≡ 0
+  pub records : length (chain_of (checked 9 2 quad_words)) ≡ 3

@@ -3,3 +3,4 @@ pub mod Of
 pub mod Transaction
 pub mod Laws
 pub mod Polls
+pub mod InTurn

@@ -1,7 +1,7 @@
--- A call that may be refused: what its number says, and demand 3 for it.
+-- A call that may be refused: what its number says, and what refuses it.
 use mathlib.Core.Path.{◌≡◌, refl, sym, ◌∙◌}
 use mathlib.Core.Bool.{Bool, true, false, cond}
-use mathlib.Core.List.{List, ◌++◌}
+use mathlib.Core.List.{List}
 use mathlib.Core.Logic.{◌⊎◌, inl, inr, ⊎_elim}
 use Prim.Native.Nat.{ℕ, ◌<◌}
 use native.Mathlib.Omega.{arith}
@@ -9,11 +9,10 @@ use lib.Dec.{eqb}
 use borrow.Author.Tests.{ne_eqb, eqb-true, eqb-false}
 use Rattle.model.specs.Steps.{Steps}
 use Rattle.model.specs.State.{State, begun, with_number, room_of, ran, advance, limit_first, called}
-use Rattle.model.specs.Limit.{Ended, AgainCall, AnotherLimitCalled, AnotherLimitFirst}
 use Rattle.model.specs.Run.{run}
 use Rattle.model.specs.Ends.{Met}
 use Rattle.model.specs.Called.{RefusedBy, EveryCallEnds, OthersTouchNothing}
-use Rattle.model.proofs.Advance.{starts, another_limit_call}
+use Rattle.model.proofs.Advance.{starts}
 use Rattle.model.proofs.Ends.{every_run_ends}
 
 module _ {refused : ℕ} (s : Steps) (limit : ℕ) (answers log m : List ℕ) where
@@ -69,12 +68,6 @@ pub refusal_not_met : (n : ℕ) → 2 < n → n < 10 → Met n → ⊥
 refusal_not_met n a b =
     ⊎_elim (λ e. omega (arith, e)) (⊎_elim (λ e. omega (arith, e)) (⊎_elim (λ e. omega (arith, e)) (⊎_elim (λ e. omega (arith, e)) (λ e. omega (arith, e)))))
 
-pub another_limit_called : AnotherLimitCalled
-another_limit_called refusedAt s l l' ws more log m on two some =
-    called_holds (λ st. Ended st.number → AgainCall l' st (called (refusedAt l') s l' (ws ++ more) log m)) (refusedAt l) s l ws log m
-    (λ i. ⊎_elim (λ h. absurd (i h)) (λ h. absurd (two h)))
-    (λ z x. rw (called_runs s l' (ws ++ more) log m (on z)) (another_limit_call s l l' ws more log m some x))
-
 -- What is not refused has a limit, and nothing else refuses it; what has a limit is refused by the rest alone.
 pub limit_accepted : (limit other : ℕ) → limit_first limit other ≡ 0 → (0 < limit) × (other ≡ 0)
 limit_accepted limit other z = by (eqb limit 0) refl z
@@ -94,8 +87,3 @@ limit_never limit other n l i h = by (eqb limit 0) h
     by : (b : Bool) → cond b 7 other ≡ n → ⊥
     by true h = omega (arith, h, l)
     by false h = i h
-
-pub another_limit_first : AnotherLimitFirst
-another_limit_first other s l l' ws more log m two some =
-    another_limit_called (λ limit. limit_first limit other) s l l' ws more log m
-    (λ z. limit_passed l' other (λ e. omega (arith, e)) ∙ (limit_accepted l other z).1) (limit_never l other 2 (omega arith) two) some

@@ -7,11 +7,13 @@ pub mod Then
 pub mod Limit
 pub mod Advance
 pub mod Called
+pub mod Refusable
 pub mod Entry
 pub mod Next
 pub mod Finally
 pub mod Frame
 pub mod Kept
+pub mod More
 pub mod Positions
 pub mod Polls
 pub mod From

@@ -14,7 +14,8 @@ use Rattle.model.specs.State.{room_of, ran, onward, advance, called}
 use Rattle.model.specs.Frame.Inside.{ends, gets}
 use Rattle.model.specs.Settled.{end_of, fetched, Settled, HypothesesMet}
 use Rattle.model.proofs.Called.{refusal_not_met}
-use Rattle.model.proofs.Polls.{wait_waits}
+use Rattle.model.proofs.Refusable.{limited_steady}
+use Rattle.model.proofs.Polls.{wait_bounded}
 use Rattle.model.proofs.Supported.{wait_supported}
 
 pub settled : Settled
@@ -39,7 +40,8 @@ unfolding get_field plus poll_tally tally_event tally_of wait_for answered poll 
 hypotheses_met =
     record {
       limit = (wait_for start, 3, 3, 0x80000000 ∷ 0x80000000 ∷ 0 ∷ [], [], inl refl, omega arith);
-      waits = wait_waits start;
+      waits = wait_bounded start;
+      steady = limited_steady 6 (wait_for start) (λ h. omega (arith, h));
       supported = wait_supported start;
       reads = tt;
       late = refl;

@@ -9,6 +9,8 @@ pub mod Limit
 pub mod Ends
 pub mod Called
 pub mod From
+pub mod Refusable
+pub mod More
 pub mod Positions
 pub mod Polls
 pub mod Supported

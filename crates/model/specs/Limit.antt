@@ -3,7 +3,7 @@ use Rattle.std.specs.Prelude.{◌≡◌, false, List, ◌++◌, ◌⊎◌, ◌�
 use Rattle.model.specs.Tally.{longest_of}
 use Rattle.model.specs.Steps.{Steps}
 use Rattle.model.specs.Run.{Outcome, run}
-use Rattle.model.specs.State.{State, begun, advance, limit_first, called}
+use Rattle.model.specs.State.{State, begun, advance}
 
 -- done or unsupported
 abbrev pub Ended : ℕ → Type 0
@@ -38,18 +38,3 @@ abbrev pub AnotherLimitCall : Type 0
 AnotherLimitCall =
     (s : Steps) (limit limit' : ℕ) (answers more log m : List ℕ) → 0 < limit' → Ended (advance s limit answers (begun log m)).number
     → AgainCall limit' (advance s limit answers (begun log m)) (advance s limit' (answers ++ more) (begun log m))
-
--- The same of a call that may be refused: `refusedAt` is its refusal at a limit, which no other limit from 1 up adds to, and which is never 2.
-abbrev pub AnotherLimitCalled : Type 0
-AnotherLimitCalled =
-    (refusedAt : ℕ → ℕ) (s : Steps) (limit limit' : ℕ) (answers more log m : List ℕ)
-    → (refusedAt limit ≡ 0 → refusedAt limit' ≡ 0) → (refusedAt limit ≡ 2 → ⊥) → 0 < limit'
-    → Ended (called (refusedAt limit) s limit answers log m).number
-    → AgainCall limit' (called (refusedAt limit) s limit answers log m) (called (refusedAt limit') s limit' (answers ++ more) log m)
-
--- The same of a call that is refused by 7 at limit 0, else by a number that is not 2 and that the limit does not matter to.
-abbrev pub AnotherLimitFirst : Type 0
-AnotherLimitFirst =
-    (other : ℕ) (s : Steps) (limit limit' : ℕ) (answers more log m : List ℕ) → (other ≡ 2 → ⊥) → 0 < limit'
-    → Ended (called (limit_first limit other) s limit answers log m).number
-    → AgainCall limit' (called (limit_first limit other) s limit answers log m) (called (limit_first limit' other) s limit' (answers ++ more) log m)

@@ -7,8 +7,9 @@ use Rattle.model.specs.Steps.Steps.{end, get}
 use Rattle.model.specs.Run.{run}
 use Rattle.model.specs.State.{State, begun, advance, called}
 use Rattle.model.specs.Limit.{AnotherLimitMet}
+use Rattle.model.specs.Refusable.{Steady, limited}
 use Rattle.model.specs.Ends.{Met}
-use Rattle.model.specs.Polls.{AtMost}
+use Rattle.model.specs.Polls.{only, Bounded}
 use Rattle.model.specs.Supported.{Supported}
 use Rattle.model.specs.Order.{BeginsWithRead}
 use Rattle.model.specs.Frame.{Inside}
@@ -42,7 +43,8 @@ pub record Settled : Type 0 where
 -- What the laws ask for can be had.
 pub record HypothesesMet : Type 0 where
   pub limit : AnotherLimitMet
-  pub waits : AtMost 1 (wait_for start)
+  pub waits : Bounded (only start 1) 0 (wait_for start)
+  pub steady : Steady (limited 6 (wait_for start))
   pub supported : Supported (wait_for start)
   pub reads : BeginsWithRead (wait_for start)
   -- a run that ends in 1, and states from which steps meet 10 and 11

@@ -1,18 +1,20 @@
 -- Demand 3 for an opening and a release, no polls, and what a refusal leaves.
 use mathlib.Core.Path.{◌≡◌, refl, ap}
 use mathlib.Core.Bool.{Bool, true, false, cond, not, ◌&&◌}
-use Prim.Native.Nat.{ℕ, ◌<◌}
+use mathlib.Core.Logic.{inl}
+use Prim.Native.Nat.{ℕ}
 use native.Mathlib.Omega.{arith}
 use lib.Dec.{eqb, ltb}
 use borrow.Author.Tests.{ne_eqb}
-use Rattle.model.specs.State.{called}
-use Rattle.model.proofs.Called.{called_refused, others_touch_nothing, refusal_not_met, another_limit_called}
+use Rattle.model.proofs.Called.{called_refused, others_touch_nothing}
+use Rattle.model.proofs.Refusable.{another_limit_called}
 use Rattle.config.specs.Spi.{supported}
 use Rattle.config.specs.Config.{is_qpi}
 use Rattle.opening.specs.Steps.{release_steps}
 use Rattle.opening.specs.declared.Opening.{Opening}
 use Rattle.opening.specs.Call.{opening_refusal, steps_of, rate_of, with_rate, opens, releases}
-use Rattle.opening.specs.Laws.{OpeningAgain, ReleaseAgain, OpeningPolls, ReleasePolls, OpeningRefused, OpeningUntouched}
+use Rattle.opening.specs.Laws.{opening_refusable, release_refusable, OpeningSteady, ReleaseSteady, OpeningAgain}
+use Rattle.opening.specs.Laws.{ReleaseAgain, OpeningPolls, ReleasePolls, OpeningRefused, OpeningUntouched}
 use Rattle.opening.proofs.Polls.{opening_waits, release_waits, called_polls}
 
 -- the first of four tests that holds
@@ -34,35 +36,37 @@ no_last false true c d h = h
 no_last false false true d h = h
 no_last false false false d h = refl
 
-module _ (o : Opening) where
-  not_two : (limit : ℕ) → opening_refusal o limit ≡ 2 → ⊥
-  unfolding opening_refusal
-  not_two limit = never_two (not (supported o.config.mode)) (ltb 3 o.instance) (is_qpi o.config.work_mode && not o.qpi) (eqb limit 0)
+pub opening_steady : OpeningSteady
+unfolding opening_refusal
+opening_steady o =
+    let mode = not (supported o.config.mode) in
+    let instance = ltb 3 o.instance in
+    let work = is_qpi o.config.work_mode && not o.qpi in
+    record {
+      accepted = λ l l' some h. rw (ne_eqb l' 0 (λ z. omega (arith, z))) (no_last mode instance work (eqb l 0) h);
+      never_2 = λ l. never_two mode instance work (eqb l 0);
+    }
 
-  not_refused : (limit limit' : ℕ) → 0 < limit' → opening_refusal o limit ≡ 0 → opening_refusal o limit' ≡ 0
-  unfolding opening_refusal
-  not_refused limit limit' some h =
-      rw (ne_eqb limit' 0 (λ z. omega (arith, z)))
-      (no_last (not (supported o.config.mode)) (ltb 3 o.instance) (is_qpi o.config.work_mode && not o.qpi) (eqb limit 0) h)
+pub release_steady : ReleaseSteady
+release_steady i = record { accepted = λ l l' some z. z; never_2 = λ l z. omega (arith, z) }
 
 pub opening_again : OpeningAgain
 unfolding opens
 opening_again o l l' ws more log m some x =
-    let g = another_limit_called (opening_refusal o) (steps_of o) l l' ws more log m (not_refused o l l' some) (not_two o l) some x in
+    let g = another_limit_called (opening_refusable o) (opening_steady o) l l' ws more log m some x in
     record { exactly = g.exactly; alike = λ h. ap (with_rate (rate_of o)) (g.alike h) }
 
 pub release_again : ReleaseAgain
 unfolding releases
-release_again i l l' ws more log m some x =
-    another_limit_called (λ limit. 0) (release_steps i) l l' ws more log m (λ z. z) (λ z. omega (arith, z)) some x
+release_again i = another_limit_called (release_refusable i) (release_steady i)
 
 pub opening_polls : OpeningPolls
 unfolding opens
-opening_polls o l ws log m = called_polls _ (steps_of o) l ws log m (opening_waits o)
+opening_polls o l ws log m = called_polls _ (steps_of o) l ws log m (opening_waits l o)
 
 pub release_polls : ReleasePolls
 unfolding releases
-release_polls i l ws log m = called_polls 0 (release_steps i) l ws log m (release_waits i)
+release_polls i l ws log m = called_polls 0 (release_steps i) l ws log m (release_waits l i)
 
 pub opening_refused : OpeningRefused
 unfolding opens
@@ -70,6 +74,5 @@ opening_refused o l ws log m i = rw (called_refused (steps_of o) l ws log m i, n
 
 pub opening_untouched : OpeningUntouched
 unfolding opens
-opening_untouched o l ws log m a b =
-    let i : (called (opening_refusal o l) (steps_of o) l ws log m).number ≡ 0 → ⊥ = λ z. omega (arith, z) in
-    (others_touch_nothing _ (steps_of o) l ws log m (refusal_not_met _ a b), rw (ne_eqb _ _ i) refl)
+opening_untouched o l ws log m never =
+    (others_touch_nothing _ (steps_of o) l ws log m never, rw (ne_eqb _ _ (λ z. never (inl z))) refl)

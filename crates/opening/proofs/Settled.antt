@@ -8,6 +8,7 @@ use Rattle.model.specs.Tally.{plus, tally_event, tally_of}
 use Rattle.model.specs.Steps.{then, change}
 use Rattle.model.specs.Run.{entered, answered, run}
 use Rattle.model.specs.State.{room_of, ran, onward, advance, called}
+use Rattle.model.proofs.Called.{refusal_not_met}
 use Rattle.clock.specs.Candidate.{factor_at}
 use Rattle.clock.specs.Rank.{rank, lowest, chosen}
 use Rattle.configure.specs.Steps.{enable_module_clock, clock_divider, controller_clock, controller_on, chip_select, transfer_format, transfer_config, bus_mode, configure_work_mode, register_steps, fifo_steps}
@@ -42,4 +43,11 @@ pub hypotheses_met : HypothesesMet
 unfolding set_field head_of value_of answer_of answers_of words stored plus tally_event tally_of then change entered answered run room_of ran onward advance called
     factor_at rank lowest chosen enable_module_clock clock_divider controller_clock controller_on chip_select transfer_format transfer_config bus_mode configure_work_mode register_steps
     fifo_steps opening_steps release_steps opening_refusal steps_of opens releases
-hypotheses_met = record { opened = inl refl; released = inl refl; refused = λ h. omega (arith, h); refused_by = refl }
+hypotheses_met =
+    record {
+      opened = inl refl;
+      released = inl refl;
+      refused = λ h. omega (arith, h);
+      refused_by = refl;
+      not_met = refusal_not_met 4 (omega arith) (omega arith);
+    }

@@ -2,10 +2,26 @@
 use Rattle.std.specs.Prelude.{◌≡◌, List, ◌++◌, ◌↔◌, ℕ, ◌<◌}
 use Rattle.model.specs.Tally.{none}
 use Rattle.model.specs.State.{begun, with_number}
+use Rattle.model.specs.Ends.{Met}
 use Rattle.model.specs.Called.{Untouched}
 use Rattle.model.specs.Limit.{Ended, AgainCall}
+use Rattle.model.specs.Refusable.{Refusable, Steady}
+use Rattle.opening.specs.Steps.{release_steps}
 use Rattle.opening.specs.declared.Opening.{Opening}
-use Rattle.opening.specs.Call.{Result, opening_refusal, opens, releases}
+use Rattle.opening.specs.Call.{Result, opening_refusal, steps_of, opens, releases}
+
+-- both as model lifts laws to them: what is made of these is their state
+abbrev pub opening_refusable : Opening → Refusable
+opening_refusable o = record { refused_at = opening_refusal o; steps = steps_of o }
+
+abbrev pub release_refusable : ℕ → Refusable
+release_refusable instance = record { refused_at = λ limit. 0; steps = release_steps instance }
+
+abbrev pub OpeningSteady : Type 0
+OpeningSteady = (o : Opening) → Steady (opening_refusable o)
+
+abbrev pub ReleaseSteady : Type 0
+ReleaseSteady = (instance : ℕ) → Steady (release_refusable instance)
 
 -- The second opening against the first: done exactly when its limit is above the first's longest, and then alike, in its rate too.
 pub record AgainOpening (limit : ℕ) (first second : Result) : Type 0 where
@@ -36,8 +52,9 @@ OpeningRefused =
     (o : Opening) (limit : ℕ) (answers log m : List ℕ) → (opening_refusal o limit ≡ 0 → ⊥)
     → opens o limit answers log m ≡ record { state = with_number (opening_refusal o limit) (begun log m); rate = 0 }
 
--- By its number: an opening that ends in 3 to 9 has touched no register and no lent byte, and gives no rate.
+-- By its number: an opening that ends in a number that no steps end in has touched no register and no lent byte, and
+-- gives no rate.
 abbrev pub OpeningUntouched : Type 0
 OpeningUntouched =
-    (o : Opening) (limit : ℕ) (answers log m : List ℕ) → 2 < (opens o limit answers log m).state.number → (opens o limit answers log m).state.number < 10
+    (o : Opening) (limit : ℕ) (answers log m : List ℕ) → (Met (opens o limit answers log m).state.number → ⊥)
     → Untouched log m (opens o limit answers log m).state × ((opens o limit answers log m).rate ≡ 0)

@@ -1,5 +1,6 @@
 -- Settled instances of an opening and a release, and an instance of each law's hypothesis. Every answer is 0.
 use Rattle.std.specs.Prelude.{◌≡◌, true, false, List, [], ◌∷◌, ℕ, ◌*◌, replicate, None}
+use Rattle.model.specs.Ends.{Met}
 use Rattle.model.specs.Limit.{Ended}
 use Rattle.registers.specs.declared.setting.CtrlMode.TheVariants.{Slave}
 use Rattle.registers.specs.declared.setting.Phase.TheVariants.{CaptureOnFirstTransition, CaptureOnSecondTransition}
@@ -107,3 +108,4 @@ pub record HypothesesMet : Type 0 where
   pub released : Ended (releases 0 0 (0 ∷ []) (replicate 4 7) []).number
   pub refused : opening_refusal (asked 4 default_config) 1 ≡ 0 → ⊥
   pub refused_by : (opens (asked 4 default_config) 1 [] [] []).state.number ≡ 4
+  pub not_met : Met (opens (asked 4 default_config) 1 [] [] []).state.number → ⊥

@@ -1,9 +1,30 @@
 -- Demand 3's bound on polls: a write of n bytes polls at most limit × (n + 2) times, a read limit × (n + 1), however it ends.
 use Rattle.std.specs.Prelude.{Bool, List, ℕ, ◌+◌, ◌*◌, ◌≤◌, length}
+use Rattle.model.specs.Wait.{Cause}
 use Rattle.model.specs.Tally.{tally_of}
 use Rattle.model.specs.Run.{run}
 use Rattle.model.specs.State.{State, advance}
+use Rattle.model.specs.Polls.{by_cause, Bounded}
 use Rattle.qspi.specs.Phases.{tx_phase, rx_phase}
+
+-- The waits for each cause, in the order space, received, empty, start. A write: one for space for each byte, and the
+-- two after them.
+abbrev pub write_waits : ℕ → Cause → ℕ
+write_waits n = by_cause n 0 1 1
+
+-- A read: one for received data for each byte, and START.
+abbrev pub read_waits : ℕ → Cause → ℕ
+read_waits n = by_cause 0 n 0 1
+
+-- the entries that are no polls: five changes and a delay, and the bytes
+abbrev pub further_entries : ℕ → ℕ
+further_entries n = 11 + n
+
+-- So many at most, on every path of a phase, whatever they weigh.
+pub record PhasesBounded : Type 0 where
+  pub write : (single : Bool) (bytes : List ℕ)
+      → Bounded (write_waits (length bytes)) (further_entries (length bytes)) (tx_phase single bytes)
+  pub read : (at n : ℕ) → Bounded (read_waits n) (further_entries n) (rx_phase at n)
 
 -- of a run, whatever the log's room, the answers and the memory
 abbrev pub WritePolls : Type 0

@@ -2,7 +2,7 @@
 use mathlib.Core.Path.{◌≡◌, refl}
 use mathlib.Core.Bool.{true}
 use mathlib.Core.List.{List, [], ◌∷◌}
-use mathlib.Core.Logic.{inl}
+use mathlib.Core.Logic.{inl, ⊎_elim}
 use Prim.Native.Nat.{ℕ, ◌+◌, ◌*◌, ◌^◌, ◌≤◌, ◌<◌}
 use native.Mathlib.Omega.{arith}
 use lib.ListN.{length}
@@ -47,4 +47,8 @@ hypotheses_met =
       quads = may_continue 5 [] quad_bytes (omega arith) refl refl (omega arith);
       unsupported = quads_end;
       refused = λ h. omega (arith, h);
+      not_met =
+          ⊎_elim (λ e. omega (arith, e))
+          (⊎_elim (λ e. omega (arith, e))
+          (⊎_elim (λ e. omega (arith, e)) (⊎_elim (λ e. omega (arith, e)) (λ e. omega (arith, e)))));
     }

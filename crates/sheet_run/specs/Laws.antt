@@ -1,6 +1,8 @@
 -- Demand 3 for sheets as byte strings, and what a sheet never gives.
 use Rattle.std.specs.Prelude.{◌≡◌, List, [], ◌∷◌, ◌++◌, ℕ, ◌+◌, ◌*◌, ◌^◌, ◌≤◌, ◌<◌, length}
 use Rattle.model.specs.State.{begun, with_number}
+use Rattle.model.specs.Ends.{Met}
+use Rattle.model.specs.Called.{Untouched}
 use Rattle.model.specs.Limit.{Ended, AgainCall}
 use Rattle.sheet.specs.Words.{spell, Below}
 use Rattle.records.specs.Check.{number_of}
@@ -38,6 +40,10 @@ abbrev pub SheetRefused : Type 0
 SheetRefused =
     (bs log : List ℕ) → (sheet_refusal (parse bs) ≡ 0 → ⊥) → sheet_state bs log ≡ with_number (sheet_refusal (parse bs)) (begun log bs)
 
+-- By its number: a sheet that ends in a number that no steps end in has touched neither.
+abbrev pub SheetUntouched : Type 0
+SheetUntouched = (bs log : List ℕ) → (Met (sheet_state bs log).number → ⊥) → Untouched log bs (sheet_state bs log)
+
 -- With its own answers in place of its own it is the sheet's run.
 abbrev pub OwnAnswers : Type 0
 OwnAnswers = (s : Sheet) (bs log : List ℕ) → parse bs ≡ sheet s → state_with s.answers bs log ≡ sheet_state bs log
@@ -65,3 +71,4 @@ pub record HypothesesMet : Type 0 where
   pub quads : Continued 5 [] quad_bytes
   pub unsupported : (end_state quad_bytes).number ≡ 2
   pub refused : sheet_refusal (parse []) ≡ 0 → ⊥
+  pub not_met : Met (end_state []).number → ⊥
