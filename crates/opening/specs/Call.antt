@@ -1,6 +1,6 @@
 -- An opening and a release as a user calls them: what is refused, and what is given for every input
 -- (document 01, "How a call ends").
-use Rattle.std.specs.Prelude.{◌≡◌, cond, not, ◌&&◌, List, ℕ, eqb, ltb, Option, Some, None, unwrap_or}
+use Rattle.std.specs.Prelude.{◌≡◌, cond, not, ◌&&◌, List, ℕ, eqb, ltb, Some, None, unwrap_or}
 use Rattle.model.specs.Steps.{Steps}
 use Rattle.model.specs.State.{State, called}
 use Rattle.config.specs.Spi.{supported}

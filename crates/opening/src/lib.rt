@@ -50,17 +50,21 @@ fn rate(pll: u32, mod_div: u8, divider: DividerSelect) -> u32
 // The steps of an opening: `new` after its tests and its choice of clock.
 fn new(
     block: &mut RegisterBlock<'_>,
-    instance: u32,
+    opening: Opening,
     choice: Choice,
     sck_hz: u32,
-    osc_hz: u32,
-    config: QspiConfig,
 ) -> Result<(), QspiError>
-    requires { instance < 4 }
-    ensures { Makes (opening_steps instance choice.mod_div choice.divider sck_hz osc_hz config) block.old block.new result }
+    requires { opening.instance < 4 }
+    ensures { Makes (opening_steps opening.instance choice.mod_div choice.divider sck_hz opening.clock_tree.osc_24m opening.config) block.old block.new result }
 {
+    let Opening {
+        instance,
+        config,
+        clock_tree,
+        ..
+    } = opening;
     module_clock::enable_module_clock(block, instance, choice.mod_div)?;
-    controller::configure_registers(block, config, choice.divider, sck_hz, osc_hz)?;
+    controller::configure_registers(block, config, choice.divider, sck_hz, clock_tree.osc_24m)?;
     controller::init_fifos(block)
 }
 
@@ -87,24 +91,11 @@ pub fn open(limit: u32, log: &mut [u32], answers: &[u32], opening: Opening) -> O
             };
         }
     };
-    let Opening {
-        instance,
-        config,
-        clock_tree,
-        ..
-    } = opening;
-    let pll = clock_tree.pll_fra0;
-    let choice = clock::select_clock(pll, clock::clamp_target(config.freq));
+    let pll = opening.clock_tree.pll_fra0;
+    let choice = clock::select_clock(pll, clock::clamp_target(opening.config.freq));
     let sck_hz = rate(pll, choice.mod_div, choice.divider);
     let mut block = RegisterBlock::new(limit, log, answers);
-    let ended = new(
-        &mut block,
-        instance,
-        choice,
-        sck_hz,
-        clock_tree.osc_24m,
-        config,
-    );
+    let ended = new(&mut block, opening, choice, sck_hz);
     with_rate(block.progress(ended), sck_hz)
 }
 

@@ -14,7 +14,7 @@ use Rattle.model.specs.Run.{entered, answered, poll, run}
 use Rattle.model.specs.State.{room_of, ran, onward, advance, called}
 use Rattle.records.specs.Check.{out_of_range, extents_fault, windows_fault, record_fault, records_in, along, checked}
 use Rattle.chain.specs.Chain.{record_steps, chain_steps}
-use Rattle.chain.specs.Transaction.{refusal, outcome}
+use Rattle.chain.specs.Transaction.{first_fault, refusal, outcome}
 use Rattle.chain.proofs.Instances.{hypotheses_met as met}
 use Rattle.sheet.specs.Sheet.{parse}
 use Rattle.sheet.proofs.WordLaws.{all_below, below_by}
@@ -35,8 +35,8 @@ quads_end = met.unsupported
 
 pub hypotheses_met : HypothesesMet
 unfolding get_field head_of value_of answer_of answers_of receive words stored plus poll_tally tally_event tally_of then wait_for entered answered poll run room_of ran
-    onward advance called out_of_range extents_fault windows_fault record_fault records_in along checked record_steps chain_steps refusal outcome parse sheet_outcome
-    sheet_state end_state sheet_fault
+    onward advance called out_of_range extents_fault windows_fault record_fault records_in along checked record_steps chain_steps
+    first_fault refusal outcome parse sheet_outcome sheet_state end_state sheet_fault
 hypotheses_met =
     record {
       ended = inl refl;
@@ -51,4 +51,7 @@ hypotheses_met =
           ⊎_elim (λ e. omega (arith, e))
           (⊎_elim (λ e. omega (arith, e))
           (⊎_elim (λ e. omega (arith, e)) (⊎_elim (λ e. omega (arith, e)) (λ e. omega (arith, e)))));
+      passed = refl;
+      faulty = refl;
+      read = refl;
     }

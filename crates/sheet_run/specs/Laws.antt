@@ -1,11 +1,12 @@
 -- Demand 3 for sheets as byte strings, and what a sheet never gives.
-use Rattle.std.specs.Prelude.{◌≡◌, List, [], ◌∷◌, ◌++◌, ℕ, ◌+◌, ◌*◌, ◌^◌, ◌≤◌, ◌<◌, length}
+use Rattle.std.specs.Prelude.{◌≡◌, Ok, Err, List, [], ◌∷◌, ◌++◌, ℕ, ◌+◌, ◌*◌, ◌^◌, ◌≤◌, ◌<◌, length}
 use Rattle.model.specs.State.{begun, with_number}
 use Rattle.model.specs.Ends.{Met}
 use Rattle.model.specs.Called.{Untouched}
 use Rattle.model.specs.Limit.{Ended, AgainCall}
 use Rattle.sheet.specs.Words.{spell, Below}
-use Rattle.records.specs.Check.{number_of}
+use Rattle.config.specs.declared.error.QspiError.TheVariants.{Window}
+use Rattle.records.specs.Check.{fault, number_of}
 use Rattle.chain.specs.Laws.{quad_words, quad_answers}
 use Rattle.sheet.specs.Sheet.{Sheet, Parsed, sheet, parse, continued_bytes}
 use Rattle.sheet_run.specs.Run.{sheet_fault, sheet_outcome, sheet_state, state_with}
@@ -60,8 +61,25 @@ flush_bytes = spell (2 ∷ 0 ∷ 0 ∷ 1 ∷ 2 ∷ 6 ∷ 0 ∷ 0 ∷ 0 ∷ 0 ∷
 abbrev pub quad_bytes : List ℕ
 quad_bytes = spell (2 ∷ 100_000_000 ∷ 0 ∷ 3 ∷ 46 ∷ []) ++ (spell quad_words ++ (spell quad_answers ++ (0x9f ∷ 0 ∷ [])))
 
+-- the flush, as it is read
+abbrev pub flush_sheet : Sheet
+flush_sheet =
+    record {
+      limit = 2;
+      rate = 0;
+      qpi = 0;
+      records = 6 ∷ 0 ∷ 0 ∷ 0 ∷ 0 ∷ 0 ∷ 0 ∷ 0 ∷ [];
+      answers = 0x80000000 ∷ 0 ∷ [];
+      memory = [];
+    }
+
+-- a delay, then a read of one byte of no memory
+abbrev pub faulty_bytes : List ℕ
+faulty_bytes = spell (1 ∷ 0 ∷ 0 ∷ 2 ∷ 0 ∷ 5 ∷ 0 ∷ 0 ∷ 0 ∷ 0 ∷ 0 ∷ 0 ∷ 2 ∷ 2 ∷ 0 ∷ 1 ∷ 0 ∷ 0 ∷ 0 ∷ 0 ∷ 0 ∷ [])
+
 -- What the laws ask for can be had: the flush, which ends in 0, with a limit above its longest and an answer more, and with one that is not
--- above it; the quad records, which end in 2; and bytes that are refused.
+-- above it; the quad records, which end in 2; bytes that are refused, a sheet in which the check finds nothing, and one
+-- whose second record is at fault.
 pub record HypothesesMet : Type 0 where
   pub ended : Ended (end_state flush_bytes).number
   pub continued : Continued 5 (7 ∷ []) flush_bytes
@@ -72,3 +90,6 @@ pub record HypothesesMet : Type 0 where
   pub unsupported : (end_state quad_bytes).number ≡ 2
   pub refused : sheet_refusal (parse []) ≡ 0 → ⊥
   pub not_met : Met (end_state []).number → ⊥
+  pub passed : sheet_fault (parse flush_bytes) ≡ Ok tt
+  pub faulty : sheet_fault (parse faulty_bytes) ≡ Err (fault Window 2)
+  pub read : parse flush_bytes ≡ sheet flush_sheet
