@@ -1,6 +1,6 @@
 -- The words of a log do not say *longest*: where a wait times out and the next one polls the same register, nothing in
 -- them parts the two.
-use Rattle.std.specs.Prelude.{◌≡◌, List, [], ◌∷◌, ◌++◌, ℕ, replicate}
+use Rattle.std.specs.Prelude.{◌≡◌, [], ◌∷◌, ◌++◌, ℕ, replicate}
 use Rattle.model.specs.State.{State}
 use Rattle.bus.specs.Calls.{outcome}
 use Rattle.bus.specs.Calls.Call.{read_quad}
