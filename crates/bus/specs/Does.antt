@@ -1,9 +1,7 @@
 -- What a call promises its user.
-use Rattle.std.specs.Prelude.{◌≡◌, cond, List, ℕ, eqb, Result, Ok, Err}
-use Rattle.std.specs.Int.NonZero.{non_zero_u32_get}
-use Rattle.std.specs.declared.num.NonZeroU32.{NonZeroU32}
+use Rattle.std.specs.Prelude.{◌≡◌, cond, List, ℕ, eqb}
 use Rattle.access.specs.declared.progress.Progress.{Progress}
-use Rattle.access.specs.Of.{state_of, number_in, with_ended}
+use Rattle.access.specs.Of.{state_of, number_in}
 use Rattle.access.specs.Does.{Sound}
 use Rattle.bus.specs.Calls.{Call, outcome, outcome_from}
 
@@ -26,18 +24,6 @@ pub record CalledOnFrom (p : Progress) (call : Call) (limit : ℕ) (answers log 
   pub sound : Sound r
   pub state : state_of r log' m' ≡ outcome_from call limit answers (state_of p log m)
 
--- Nothing is run from p: it had ended, or is refused by that number. The counts stand.
-pub record Stops (p : Progress) (number : ℕ) (r : Progress) : Type 0 where
-  pub some : number_in r ≡ 0 → ⊥
-  pub is : number_in r ≡ cond (eqb (number_in p) 0) number (number_in p)
-  pub counts : r ≡ with_ended r.ended p
-
--- Else p has not ended, nothing is refused, and the limit stands.
-pub record Accepts (p : Progress) (limit number : ℕ) (l : NonZeroU32) : Type 0 where
-  pub begins : number_in p ≡ 0
-  pub accepted : number ≡ 0
-  pub limited : non_zero_u32_get l ≡ limit
-
-abbrev pub Resumes : Progress → ℕ → ℕ → Result NonZeroU32 Progress → Type 0
-Resumes p limit number (Ok l) = Accepts p limit number l
-Resumes p limit number (Err r) = Stops p number r
+-- what stops a call that goes on from p before any access: what has ended p, else its refusal; 0 for neither
+abbrev pub ended_or : Progress → ℕ → ℕ
+ended_or p number = cond (eqb (number_in p) 0) number (number_in p)

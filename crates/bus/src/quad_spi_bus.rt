@@ -51,7 +51,7 @@ pub fn read_quad_on(
 {
     let limit = match refusal::resumed(progress, limit, data.len(), 0) {
         Ok(limit) => limit,
-        Err(ended) => return ended,
+        Err(error) => return refusal::ended_by(progress, error),
     };
     let mut block = RegisterBlock::resumed(limit, log, answers, progress);
     let ended = quad::read_quad(&mut block, hz, command, tclqv_ns, margin, data);
@@ -87,7 +87,7 @@ pub fn write_quad_on(
 {
     let limit = match refusal::resumed(progress, limit, command.len(), data.len()) {
         Ok(limit) => limit,
-        Err(ended) => return ended,
+        Err(error) => return refusal::ended_by(progress, error),
     };
     let mut block = RegisterBlock::resumed(limit, log, answers, progress);
     let ended = quad::write_quad(&mut block, command, data);

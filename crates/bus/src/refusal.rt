@@ -1,8 +1,8 @@
 // What is refused before any access.
-ghost use Rattle.std.specs.Prelude.{[], ◌∷◌};
-ghost use Rattle.access.specs.Of.{Refuses};
+ghost use Rattle.std.specs.Prelude.{◌≡◌, [], ◌∷◌, Err};
+ghost use Rattle.access.specs.Of.{Refuses, with_ended};
 ghost use Rattle.bus.specs.Calls.{refusal};
-ghost use Rattle.bus.specs.Does.{Resumes};
+ghost use Rattle.bus.specs.Does.{ended_or};
 
 use access::Progress;
 use config::QspiError;
@@ -27,22 +27,24 @@ pub fn refused(limit: u32, first: usize, second: usize) -> Result<NonZeroU32, Qs
     Ok(limit)
 }
 
-// Before a call goes on from a progress: one that has ended comes back as it is, and a refusal ends it with its counts
-// as they stand; else the limit.
-#[inline(always)]
+// The same from a progress on: what has ended it comes first.
 pub fn resumed(
     progress: Progress,
     limit: u32,
     first: usize,
     second: usize,
-) -> Result<NonZeroU32, Progress>
-    ensures { Resumes progress limit (refusal limit (first ∷ second ∷ [])) result }
+) -> Result<NonZeroU32, QspiError>
+    ensures { Refuses limit (ended_or progress (refusal limit (first ∷ second ∷ []))) result }
 {
-    match progress.ended.and(refused(limit, first, second)) {
-        Ok(accepted) => Ok(accepted),
-        Err(error) => Err(Progress {
-            ended: Err(error),
-            ..progress
-        }),
+    progress.ended.and(refused(limit, first, second))
+}
+
+// The progress ended by that, with its counts as they stand.
+pub fn ended_by(progress: Progress, error: QspiError) -> Progress
+    ensures { result ≡ with_ended (Err error) progress }
+{
+    Progress {
+        ended: Err(error),
+        ..progress
     }
 }

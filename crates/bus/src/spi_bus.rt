@@ -29,7 +29,7 @@ pub fn write_on(
 {
     let limit = match refusal::resumed(progress, limit, words.len(), 0) {
         Ok(limit) => limit,
-        Err(ended) => return ended,
+        Err(error) => return refusal::ended_by(progress, error),
     };
     let mut block = RegisterBlock::resumed(limit, log, answers, progress);
     let ended = qspi::phase::tx_phase(&mut block, words, true);
@@ -57,7 +57,7 @@ pub fn read_on(
 {
     let limit = match refusal::resumed(progress, limit, words.len(), 0) {
         Ok(limit) => limit,
-        Err(ended) => return ended,
+        Err(error) => return refusal::ended_by(progress, error),
     };
     let mut block = RegisterBlock::resumed(limit, log, answers, progress);
     let ended = qspi::phase::rx_phase(&mut block, words);
@@ -92,7 +92,7 @@ pub fn transfer_on(
 {
     let limit = match refusal::resumed(progress, limit, write.len(), read.len()) {
         Ok(limit) => limit,
-        Err(ended) => return ended,
+        Err(error) => return refusal::ended_by(progress, error),
     };
     let mut block = RegisterBlock::resumed(limit, log, answers, progress);
     let ended = transfer::transfer(&mut block, read, write);
@@ -120,7 +120,7 @@ pub fn transfer_in_place_on(
 {
     let limit = match refusal::resumed(progress, limit, 0, 0) {
         Ok(limit) => limit,
-        Err(ended) => return ended,
+        Err(error) => return refusal::ended_by(progress, error),
     };
     let mut block = RegisterBlock::resumed(limit, log, answers, progress);
     let ended = transfer::transfer_in_place(&mut block, words);
@@ -143,7 +143,7 @@ pub fn flush_on(progress: Progress, limit: u32, log: &mut [u32], answers: &[u32]
 {
     let limit = match refusal::resumed(progress, limit, 0, 0) {
         Ok(limit) => limit,
-        Err(ended) => return ended,
+        Err(error) => return refusal::ended_by(progress, error),
     };
     let mut block = RegisterBlock::resumed(limit, log, answers, progress);
     let ended = waits::wait_transfer_done(&mut block);

@@ -36,7 +36,7 @@ pub fn set_work_mode_on(
 {
     let limit = match refusal::resumed(progress, limit, 0, 0) {
         Ok(limit) => limit,
-        Err(ended) => return ended,
+        Err(error) => return refusal::ended_by(progress, error),
     };
     let mut block = RegisterBlock::resumed(limit, log, answers, progress);
     let ended = mode::set_work_mode(&mut block, qpi, mode);

@@ -7,10 +7,10 @@ use Rattle.bus.proofs.spi_bus.read_on.Goals as goal
 
 pub returns-in-Err : goal.returns-in-Err
 unfolding refusal too_long lengths_of steps_of
-returns-in-Err c = stopped_on_from (read _) _ refl c.requires _ _ c.in-Err.ensures
+returns-in-Err c = stopped_on_from (read _) _ refl c.requires _ _ c.in-Err.ensures c.ended_by.ensures
 
 pub rx_phase-ended-requires : goal.rx_phase-ended-requires
-rx_phase-ended-requires c = (fitting c.in-Ok.ensures).0
+rx_phase-ended-requires c = (fitting c.args.progress c.in-Ok.ensures).0
 
 pub returns : goal.returns
 unfolding refusal too_long lengths_of steps_of

@@ -7,7 +7,7 @@ use Rattle.bus.proofs.spi_bus.transfer_in_place_on.Goals as goal
 
 pub returns-in-Err : goal.returns-in-Err
 unfolding refusal too_long lengths_of steps_of
-returns-in-Err c = stopped_on_from (transfer_in_place _) _ refl c.requires _ _ c.in-Err.ensures
+returns-in-Err c = stopped_on_from (transfer_in_place _) _ refl c.requires _ _ c.in-Err.ensures c.ended_by.ensures
 
 pub returns : goal.returns
 unfolding refusal too_long lengths_of steps_of

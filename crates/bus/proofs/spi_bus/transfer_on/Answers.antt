@@ -7,10 +7,10 @@ use Rattle.bus.proofs.spi_bus.transfer_on.Goals as goal
 
 pub returns-in-Err : goal.returns-in-Err
 unfolding refusal too_long lengths_of steps_of
-returns-in-Err c = stopped_on_from (transfer _ _) _ refl c.requires _ _ c.in-Err.ensures
+returns-in-Err c = stopped_on_from (transfer _ _) _ refl c.requires _ _ c.in-Err.ensures c.ended_by.ensures
 
 pub transfer-ended-requires : goal.transfer-ended-requires
-transfer-ended-requires c = let ok = fitting c.in-Ok.ensures in (ok.1, ok.0)
+transfer-ended-requires c = let ok = fitting c.args.progress c.in-Ok.ensures in (ok.1, ok.0)
 
 pub returns : goal.returns
 unfolding refusal too_long lengths_of steps_of

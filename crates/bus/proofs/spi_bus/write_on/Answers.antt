@@ -7,10 +7,10 @@ use Rattle.bus.proofs.spi_bus.write_on.Goals as goal
 
 pub returns-in-Err : goal.returns-in-Err
 unfolding refusal too_long lengths_of steps_of
-returns-in-Err c = stopped_from (write _) _ refl c.requires _ _ c.in-Err.ensures
+returns-in-Err c = stopped_from (write _) _ refl c.requires _ _ c.in-Err.ensures c.ended_by.ensures
 
 pub tx_phase-ended-requires : goal.tx_phase-ended-requires
-tx_phase-ended-requires c = (fitting c.in-Ok.ensures).0
+tx_phase-ended-requires c = (fitting c.args.progress c.in-Ok.ensures).0
 
 pub returns : goal.returns
 unfolding refusal too_long lengths_of steps_of

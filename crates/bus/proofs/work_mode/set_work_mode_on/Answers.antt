@@ -7,7 +7,7 @@ use Rattle.bus.proofs.work_mode.set_work_mode_on.Goals as goal
 
 pub returns-in-Err : goal.returns-in-Err
 unfolding refusal too_long lengths_of steps_of
-returns-in-Err c = stopped_from (set_work_mode _ _) _ refl c.requires _ _ c.in-Err.ensures
+returns-in-Err c = stopped_from (set_work_mode _ _) _ refl c.requires _ _ c.in-Err.ensures c.ended_by.ensures
 
 pub returns : goal.returns
 unfolding refusal too_long lengths_of steps_of
