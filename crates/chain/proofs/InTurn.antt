@@ -15,8 +15,6 @@ use Rattle.model.specs.Steps.{Steps, then, finally, change, wait_for}
 use Rattle.model.specs.Steps.End.{done}
 use Rattle.model.specs.Steps.Steps.{end, act, look}
 use Rattle.model.specs.State.{State, begun, with_number, standing, advance}
-use Rattle.model.specs.Supported.{Supported}
-use Rattle.model.specs.Order.{BeginsWithRead}
 use Rattle.model.specs.Polls.{only, sum, Bounded}
 use Rattle.model.proofs.Advance.{advance_then, ended, skipped}
 use Rattle.model.proofs.Next.{look_next}
@@ -28,7 +26,8 @@ use Rattle.config.specs.declared.config.WorkMode.{WorkMode}
 use Rattle.config.specs.declared.config.WorkMode.TheVariants.{Standard, Quad}
 use Rattle.qspi.specs.Phases.{tx_phase, rx_phase}
 use Rattle.qspi.proofs.Bounds.{phases_bounded}
-use Rattle.mode.specs.Mode.{lines, mode_changes, work_mode_steps}
+use Rattle.mode.specs.Mode.{work_mode_steps}
+use Rattle.quad.proofs.Quad.{standard_supported, standard_begins}
 use Rattle.transfer.specs.Transfer.{transfer_steps, part_steps, parts, in_place_steps}
 use Rattle.windows.specs.Windows.{quad_mode, standard_mode, quad_start, quad_steps, write_window, transfer_windows}
 use Rattle.windows.specs.Windows.{read_quad_windows, write_quad_windows}
@@ -41,14 +40,6 @@ use Rattle.chain.specs.InTurn.Part.{writes, reads, mode, flush, access}
 use Rattle.chain.specs.InTurn.Passes.{written, read, set, tried, flushed, made}
 use Rattle.chain.specs.InTurn.InTurn.{finished, part, stopped}
 use Rattle.chain.proofs.Polls.{one_more, sent, window_length, mode_bounded, framed_length}
-
-standard_supported : Supported standard_mode
-unfolding standard_mode work_mode_steps mode_changes lines wait_for then change
-standard_supported = (λ n w w'. tt, tt)
-
-standard_begins : BeginsWithRead standard_mode
-unfolding standard_mode work_mode_steps wait_for then
-standard_begins = tt
 
 standard_bounded : Bounded (only start 1) 4 standard_mode
 unfolding standard_mode
