@@ -21,4 +21,5 @@ told_of st = record { number = st.number; counts = counts_of st; log = st.log; m
 
 -- the number and the counts of what a call came to, with any log and any memory
 pub record Tells (p : Progress) (number : ℕ) (counts : Counts) : Type 0 where
-  pub told : (log m : List ℕ) → record { number = number; counts = counts; log = log; memory = m } ≡ told_of (state_of p log m)
+  pub told : (log m : List ℕ)
+      → record { number = number; counts = counts; log = log; memory = m } ≡ told_of (state_of p log m)
