@@ -5,7 +5,7 @@ use Prim.Native.Nat.{ℕ, zero, suc, ◌+◌, ◌*◌, ◌/◌, ◌≤◌, ◌<�
 use native.Mathlib.Omega.{arith}
 use native.Mathlib.Nat.{add-zero}
 use lib.ListN.{length, set, get_or}
-use Rattle.std.specs.Prelude.{Ok, Err, None, slice_get}
+use Rattle.std.specs.Prelude.{Err, None, slice_get}
 use Rattle.std.proofs.lemmas.Option.{none-some}
 use Rattle.model.specs.Event as event
 use Rattle.model.specs.Event.{act_head, act_value, ask_head, said, head_of, value_of, answer_of, receive}

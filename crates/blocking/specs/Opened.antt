@@ -1,5 +1,5 @@
 -- The bus that an opening hands back.
-use Rattle.std.specs.Prelude.{◌≡◌, cond, List, ℕ, eqb, Option, Some, None, option_map, unwrap_or}
+use Rattle.std.specs.Prelude.{◌≡◌, cond, List, ℕ, eqb, Some, None, option_map, unwrap_or}
 use Rattle.access.specs.declared.progress.Progress.{Progress}
 use Rattle.access.specs.Of.{state_of, number_in}
 use Rattle.opening.specs.declared.Opening.{Opening}

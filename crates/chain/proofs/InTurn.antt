@@ -11,7 +11,7 @@ use borrow.Author.Tests.{eqb-true, eqb-false}
 use Rattle.std.specs.Prelude.{Option, Some, None}
 use Rattle.model.specs.Wait.{Cause}
 use Rattle.model.specs.Wait.Cause.{start}
-use Rattle.model.specs.Steps.{Steps, then, finally, change, wait_for}
+use Rattle.model.specs.Steps.{Steps, then, finally, wait_for}
 use Rattle.model.specs.Steps.End.{done}
 use Rattle.model.specs.Steps.Steps.{end, act, look}
 use Rattle.model.specs.State.{State, begun, with_number, standing, advance}

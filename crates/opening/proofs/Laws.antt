@@ -11,7 +11,6 @@ use Rattle.model.proofs.Refusable.{another_limit_called}
 use Rattle.config.specs.Spi.{supported}
 use Rattle.config.specs.Config.{is_qpi}
 use Rattle.opening.specs.Steps.{release_steps}
-use Rattle.opening.specs.declared.Opening.{Opening}
 use Rattle.opening.specs.Call.{opening_refusal, steps_of, rate_of, with_rate, opens, releases}
 use Rattle.opening.specs.Laws.{opening_refusable, release_refusable, OpeningSteady, ReleaseSteady, OpeningAgain}
 use Rattle.opening.specs.Laws.{ReleaseAgain, OpeningPolls, ReleasePolls, OpeningRefused, OpeningUntouched}

@@ -14,9 +14,8 @@ use Rattle.model.specs.Steps.{Steps, then}
 use Rattle.model.specs.Steps.End.{done}
 use Rattle.model.specs.Steps.Steps.{end, wait}
 use Rattle.model.specs.Field.{get_field}
-use Rattle.model.specs.Event.{receive}
-use Rattle.model.specs.Run.{Outcome, after, entered, answered, poll, run}
-use Rattle.qspi.specs.Phases.{Move, moved, moved_all, paced, gots}
+use Rattle.model.specs.Run.{Outcome, after, answered, poll, run}
+use Rattle.qspi.specs.Phases.{Move, moved_all, paced, gots}
 use Rattle.qspi.specs.Phases.Move.{sent}
 use Rattle.qspi.specs.Portions.{Portions, ReadyCounts, Alike, sending_on, getting_on}
 use Rattle.qspi.proofs.Paced.{portion, paced_wait, portion_part}

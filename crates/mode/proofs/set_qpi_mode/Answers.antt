@@ -1,4 +1,3 @@
-use Rattle.model.specs.Steps.End.{unsupported}
 use Rattle.access.proofs.Makes.{ends_unsupported}
 use Rattle.mode.specs.Mode.{qpi_mode}
 use Rattle.mode.proofs.set_qpi_mode.Goals as goal

@@ -1,4 +1,3 @@
-use Rattle.std.proofs.Common.{rules}
 use Rattle.access.proofs.Goes.{goes_on}
 use Rattle.windows.specs.Windows.{write_window}
 use Rattle.windows.proofs.Parts.{short, looks_goes}
