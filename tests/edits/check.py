@@ -8,8 +8,9 @@ each that its own proof fails, and not only that it calls one whose proof does. 
 place in the code or a name is missing, which a proof of any answer would be: a fact must fail.
 
 The crates are copied to a folder for temporary files and checked there by `rt check`: as they stand, and then with one
-edit at a time. An edit that passed is kept for later runs on this machine, by the checksum of all that its check read;
---anew tries it again.
+edit at a time. An edit that marks no function is not tried again where `rt ci` has tried it in the same gate and told
+which fact fails: EDITS_TOLD names what that wrote. An edit that passed is kept for later runs on this machine, by the
+checksum of all that its check read; --anew tries all of them.
 """
 import functools
 import hashlib
@@ -35,6 +36,8 @@ MISSING = re.compile(
     r"|expected the end|cannot continue)"
     r"|error\[[\w-]+\]"
 )
+# What `rt ci` says of an edit, with the first fact that fails.
+TOLD = re.compile(r"^rt: must-fail (\S+)\.edit: refused, as it must be: (.+)$", re.M)
 
 
 def read(path):
@@ -153,6 +156,12 @@ def tried(folder, text):
     return [it for it in whys if it]
 
 
+def told():
+    """The edits of which `rt ci` told in this gate that a fact fails."""
+    path = os.environ.get("EDITS_TOLD")
+    return {edit for edit, fact in TOLD.findall(read(path)) if not MISSING.search(fact)} if path else set()
+
+
 class Counts:
     """What passed and what failed, of all lanes."""
 
@@ -223,6 +232,7 @@ def main(words):
     anew, words = "--anew" in words, {it for it in words if it != "--anew"}
     version = subprocess.run(["rt", "version"], stdout=subprocess.PIPE, check=True).stdout
     counts, waiting, new, of, tests = Counts(), queue.Queue(), [], 0, 0
+    tried_before = set() if anew else told()
     with tempfile.TemporaryDirectory(prefix="edits-") as room:
         first = copied(ROOT, f"{room}/0")
         for crate in first.rows:
@@ -236,11 +246,14 @@ def main(words):
                 tests += 1 + len(marked(text))
                 if os.path.isfile(kept) and not anew:
                     counts.tell(f"{crate}/{edit}", 1 + len(marked(text)), [], "kept")
+                elif f"{crate}/{edit}" in tried_before and not marked(text):
+                    counts.tell(f"{crate}/{edit}", 1, [], "told by rt ci")
+                    keep(kept)
                 else:
                     edits[edit] = text, kept
             if edits:
                 new.append((crate, edits))
-        print(f"{of} edits, of which {of - sum(len(it) for _, it in new)} are kept", flush=True)
+        print(f"{of} edits, of which {sum(len(it) for _, it in new)} are tried", flush=True)
         for it in sorted(new, key=lambda it: -first.size(it[0]) * len(it[1])):
             waiting.put(it)
         copies = [first if it == 0 else copied(first.top, f"{room}/{it}") for it in range(min(lanes(), len(new)))]
