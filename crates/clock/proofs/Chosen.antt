@@ -10,7 +10,7 @@ use native.Mathlib.Nat.{le_antisymm, le_trans, lt_of_le_of_lt, div-le_self}
 use native.Mathlib.Omega.{arith}
 use Rattle.clock.specs.Candidate.{candidate, module_clock, in_range, factor_at, rate, Eligible}
 use Rattle.clock.specs.Choose.{apart, IsChoice, fallback, NoneEligible}
-use Rattle.clock.specs.Rank.{cost, far, rank, lowest, chosen, choice}
+use Rattle.clock.specs.Rank.{cost, far, rank_by, lowest_by, chosen_by, rank, lowest, chosen, choice}
 use Rattle.clock.specs.Laws.{ChoiceRight, OnlyOne, Nearest, NotAboveAmongEquals, FirstAmongThose, NoneEligibleFallsBack}
 use Rattle.clock.proofs.Lowest.{lowest_most}
 
@@ -44,12 +44,12 @@ digits_first h l = omega arith
 
 module _ (pll target : ℕ) where
   near_rank : (i : ℕ) → Eligible pll i → rank pll target i ≡ cost (rate pll i) target * 8_704 + i
-  unfolding rank
+  unfolding rank_by
   near_rank i e = rw (le-leb _ _ e.least, le-leb _ _ e.most)
 
   -- a rank below that of no candidate is an eligible one's
   eligible_of : (i : ℕ) → i < 8_704 → rank pll target i < far * 8_704 → Eligible pll i
-  unfolding rank
+  unfolding rank_by
   eligible_of i h l = go (in_range (module_clock pll (i / 272))) refl
     where
       go : (b : Bool) → in_range (module_clock pll (i / 272)) ≡ b → Eligible pll i
@@ -60,7 +60,7 @@ module _ (pll target : ℕ) where
 
   -- the lowest rank is at most each, and one of them
   lowest_least : (n j : ℕ) → j < n → lowest pll target n ≤ rank pll target j
-  unfolding lowest
+  unfolding lowest_by
   lowest_least zero j h = omega arith
   lowest_least (suc n) j h =
       elim (dec_lt j n) [
@@ -68,8 +68,9 @@ module _ (pll target : ℕ) where
         | no g ↦ let e : j ≡ n = omega arith in rw e (omega arith)
       ]
 
-  lowest_found : (n : ℕ) → lowest pll target n < far * 8_704 → (i : ℕ) × (i < n) × (lowest pll target n ≡ rank pll target i)
-  unfolding lowest
+  lowest_found :
+      (n : ℕ) → lowest pll target n < far * 8_704 → (i : ℕ) × (i < n) × (lowest pll target n ≡ rank pll target i)
+  unfolding lowest_by
   lowest_found zero h = absurd (omega arith)
   lowest_found (suc n) h =
       elim (dec_lt (rank pll target n) (lowest pll target n)) [
@@ -96,8 +97,9 @@ module _ (pll target : ℕ) where
       first_of : (j : ℕ) → Eligible pll j → cost (rate pll j) target ≤ cost (rate pll i) target → i ≤ j
       first_of j f = digits_first (ranks j f)
 
-  found_choice : (i : ℕ) → Eligible pll i → lowest pll target 8_704 ≡ rank pll target i → IsChoice pll target (chosen pll target)
-  unfolding chosen
+  found_choice :
+      (i : ℕ) → Eligible pll i → lowest pll target 8_704 ≡ rank pll target i → IsChoice pll target (chosen pll target)
+  unfolding chosen_by
   found_choice i e l =
       let index = ap (λ n. n % 8_704) (l ∙ near_rank i e) ∙ digits_mod _ e.scanned in
       rw index (least_choice i e (λ j h. rw (← l) (lowest_least 8_704 j h)))
@@ -105,11 +107,12 @@ module _ (pll target : ℕ) where
 module _ (pll target : ℕ) (p : pll < 2 ^ 32) (t : target < 2 ^ 32) where
   near_below : (i : ℕ) → Eligible pll i → rank pll target i < far * 8_704
   near_below i e =
-      let small = le_trans (div-le_self (module_clock pll (i / 272)) (factor_at (i % 272))) (div-le_self pll (i / 272 + 1)) in
+      let divided = div-le_self (module_clock pll (i / 272)) (factor_at (i % 272)) in
+      let small = le_trans divided (div-le_self pll (i / 272 + 1)) in
       rw (near_rank pll target i e) (digits_below e.scanned (cost_most (rate pll i) target (lt_of_le_of_lt small p) t))
 
   outcome : IsChoice pll target (chosen pll target) ⊎ (NoneEligible pll × (choice pll target ≡ fallback))
-  unfolding chosen
+  unfolding chosen_by
   outcome =
       elim (dec_lt (lowest pll target 8_704) (far * 8_704)) [
         | yes l ↦

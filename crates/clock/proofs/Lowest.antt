@@ -9,11 +9,13 @@ use native.Mathlib.Numerals.{add-one}
 use native.Mathlib.Omega.{arith}
 use Rattle.clock.specs.Candidate.{module_clock, in_range, factor_at}
 use Rattle.clock.specs.Skip.{kind_end, next_place}
-use Rattle.clock.specs.Rank.{cost, far, rank, lowest}
-use Rattle.clock.proofs.Places.{factor_pos, factor_rises, kind_ends}
+use Rattle.clock.specs.Rank.{cost, far, rank_by, lowest_by, rank, lowest}
+use Rattle.clock.proofs.Places.{kind_ends}
+use Rattle.clock.proofs.Factors.{factor_pos, factor_rises}
 
 div_falls : (n : ℕ) {a b : ℕ} → 0 < a → a ≤ b → n / b ≤ n / a
-div_falls n {a} {b} p h = (le-div_iff_mul-le {k = a} {x = n / b} {y = n} p).1 (le_trans (mul-le-mul_left (n / b) h) (div-mul-le_self n b))
+div_falls n {a} {b} p h =
+    (le-div_iff_mul-le {k = a} {x = n / b} {y = n} p).1 (le_trans (mul-le-mul_left (n / b) h) (div-mul-le_self n b))
 
 cost_rises : {r s t : ℕ} → s ≤ r → r ≤ t → cost r t ≤ cost s t
 cost_rises l h = omega arith
@@ -27,15 +29,16 @@ module _ (pll target : ℕ) where
       (m place i : ℕ) →
       place < 272 →
       i ≡ m * 272 + place →
-      rank pll target i ≡ cond (in_range (module_clock pll m)) (cost (module_clock pll m / factor_at place) target) far * 8_704 + i
-  unfolding rank
+      rank pll target i
+      ≡ cond (in_range (module_clock pll m)) (cost (module_clock pll m / factor_at place) target) far * 8_704 + i
+  unfolding rank_by
   rank_at m place i h e =
       let q : i / 272 ≡ m = omega arith in
       let r : i % 272 ≡ place = omega arith in
       rw (q, r)
 
   pub lowest_most : (n : ℕ) → lowest pll target n ≤ far * 8_704
-  unfolding lowest
+  unfolding lowest_by
   lowest_most zero = omega arith
   lowest_most (suc n) = omega (arith, lowest_most n)
 
@@ -45,7 +48,7 @@ module _ (pll target : ℕ) where
       n ≤ k →
       ((i : ℕ) → n ≤ i → i < k → lowest pll target n ≤ rank pll target i) →
       lowest pll target n ≡ lowest pll target k
-  unfolding lowest
+  unfolding lowest_by
   stays n zero l h = let e : n ≡ 0 = omega arith in rw e
   stays n (suc k) l h =
       elim (dec_le n k) [
@@ -55,13 +58,14 @@ module _ (pll target : ℕ) where
 
   -- a rank below 8,704 is the index of a rate that is the target
   hit_below : (n : ℕ) → lowest pll target n < 8_704 → lowest pll target n < n
-  unfolding lowest rank
+  unfolding lowest_by rank_by
   hit_below zero h = omega arith
-  hit_below (suc n) h = elim (dec_lt (lowest pll target n) 8_704) [ yes l ↦ omega (arith, hit_below n l) | no g ↦ omega arith ]
+  hit_below (suc n) h =
+      elim (dec_lt (lowest pll target n) 8_704) [ yes l ↦ omega (arith, hit_below n l) | no g ↦ omega arith ]
 
   -- so after it all may be left out
   pub settled : (n k : ℕ) {best : ℕ} → n ≤ k → best ≡ lowest pll target n → best < 8_704 → best ≡ lowest pll target k
-  unfolding rank
+  unfolding rank_by
   settled n k l b h = b ∙ stays n k l (λ i a c. omega (arith, hit_below n (rw b at h)))
 
   -- and so may the places of a module clock that is not eligible
@@ -73,7 +77,8 @@ module _ (pll target : ℕ) where
   module_passed m e b = b ∙ stays (m * 272) ((m + 1) * 272) (omega arith) higher
     where
       higher : (i : ℕ) → m * 272 ≤ i → i < (m + 1) * 272 → lowest pll target (m * 272) ≤ rank pll target i
-      higher i a c = rw (rank_at m (i - m * 272) i (omega arith) (omega arith), e) (omega (arith, lowest_most (m * 272)))
+      higher i a c =
+          rw (rank_at m (i - m * 272) i (omega arith) (omega arith), e) (omega (arith, lowest_most (m * 272)))
 
   -- one more place of an eligible module clock, as the scan goes: its factor, its rank, the lesser of the two
   pub place_more :
@@ -85,11 +90,11 @@ module _ (pll target : ℕ) where
       ranked ≡ cost (module_clock pll m / divisor) target * 8_704 + (m * 272 + place) →
       r ≡ min best ranked →
       r ≡ lowest pll target (m * 272 + (place + 1))
-  unfolding lowest
+  unfolding lowest_by
   place_more m place h e b d k l = rw (add-one, add-suc, rank_at m place (m * 272 + place) h refl, e, ← d, ← k, ← b) l
 
   place_least : (m place : ℕ) → lowest pll target (m * 272 + (place + 1)) ≤ rank pll target (m * 272 + place)
-  unfolding lowest
+  unfolding lowest_by
   place_least m place = rw (add-one, add-suc) (omega arith)
 
   -- after it, the next place to look at
@@ -115,7 +120,8 @@ module _ (pll target : ℕ) where
           i < m * 272 + kind_end place →
           lowest pll target (m * 272 + (place + 1)) ≤ rank pll target i
       higher l i a c =
-          let falls = div_falls (module_clock pll m) (factor_pos place) (factor_rises place (i - m * 272) (omega arith) (omega arith)) in
+          let rises = factor_rises place (i - m * 272) h (omega arith) (omega arith) in
+          let falls = div_falls (module_clock pll m) (factor_pos place h) rises in
           let here = rank_at m place (m * 272 + place) h refl in
           let there = rank_at m (i - m * 272) i (omega (arith, kind_ends place h)) (omega arith) in
           le_trans (place_least m place) (rw (here, there, e) (digits_rise (cost_rises falls l) (omega arith)))

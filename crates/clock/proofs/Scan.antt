@@ -1,4 +1,4 @@
--- The candidates by index are those of document 01 in scan order, each with its rate; and the PLL rates at which none is eligible.
+-- The candidates by index are those of document 01 in scan order, each with its rate; the PLL rates where none is eligible.
 use mathlib.Core.Bool.{Bool, true, false}
 use mathlib.Core.Path.{◌≡◌, refl, ap}
 use Prim.Native.Nat.{ℕ, ◌+◌, ◌*◌, ◌/◌, ◌%◌, ◌≤◌, ◌<◌}
@@ -10,11 +10,11 @@ use native.Mathlib.Nat.{le-div_iff_mul-le, zero-div}
 use native.Mathlib.Omega.{arith}
 use Rattle.clock.specs.declared.DividerSelect.TheVariants.{Cdr1, Cdr2}
 use Rattle.clock.specs.Answer.{Answer, answer, too_large, sck}
-use Rattle.clock.specs.Candidate.{divider_at, factor_at, candidate, rate}
+use Rattle.clock.specs.Candidate.{divider_at, candidate, rate}
 use Rattle.clock.specs.Choose.{NoneEligible}
 use Rattle.clock.specs.Laws.{NoClock, BeyondAnyClock, HypothesesMet}
 use Rattle.clock.proofs.Chosen.{none_eligible}
-use Rattle.clock.proofs.Places.{cdr1_at, cdr2_at}
+use Rattle.clock.proofs.Places.{cdr1_at, cdr2_at, place_again}
 
 pub cdr1_candidate : (m c : ℕ) → c ≤ 15 → candidate (m * 272 + c) ≡ record { mod_div = m; divider = Cdr1 c }
 cdr1_candidate m c h =
@@ -35,9 +35,9 @@ divider_fits place = go (ltb place 16) refl
     go false e = rw e
 
 -- each candidate is answered 0, with its rate
-pub candidate_rate : (pll i : ℕ) → i < 8_704 → sck pll (i / 272) (divider_at (i % 272)) ≡ record { number = 0; hz = rate pll i }
-unfolding factor_at
-candidate_rate pll i h = rw (le-ltb 31 (i / 272) (omega arith), divider_fits (i % 272))
+pub candidate_rate :
+    (pll i : ℕ) → i < 8_704 → sck pll (i / 272) (divider_at (i % 272)) ≡ record { number = 0; hz = rate pll i }
+candidate_rate pll i h = rw (le-ltb 31 (i / 272) (omega arith), divider_fits (i % 272), place_again (i % 272))
 
 -- number and rate leave nothing open of an answer
 pub answer_determines : (a b : Option ℕ) → answer a ≡ answer b → a ≡ b
@@ -52,7 +52,8 @@ beyond_any_clock pll target h p t = none_eligible pll target p t none
   where
     none : NoneEligible pll
     none i e =
-        let fast = (le-div_iff_mul-le {k = i / 272 + 1} {x = 100_000_001} {y = pll} (omega arith)).1 (omega (arith, e.scanned)) in
+        let least = le-div_iff_mul-le {k = i / 272 + 1} {x = 100_000_001} {y = pll} (omega arith) in
+        let fast = least.1 (omega (arith, e.scanned)) in
         omega (arith, e.most)
 
 none_at_zero : NoneEligible 0
@@ -62,4 +63,5 @@ pub no_clock : NoClock
 no_clock target t = none_eligible 0 target (omega arith) t none_at_zero
 
 pub hypotheses_met : HypothesesMet
-hypotheses_met = record { eligible = record { scanned = omega arith; least = omega arith; most = omega arith }; none = none_at_zero }
+hypotheses_met =
+    record { eligible = record { scanned = omega arith; least = omega arith; most = omega arith }; none = none_at_zero }

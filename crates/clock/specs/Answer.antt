@@ -18,8 +18,12 @@ abbrev pub too_large : DividerSelect → Bool
 too_large (Cdr1 c) = ltb 15 c
 too_large (Cdr2 c) = false
 
-abbrev pub sck : ℕ → ℕ → DividerSelect → Answer
-sck pll m d =
+-- the answer, where `factor` gives what a divider divides the module clock by
+abbrev pub sck_by : (DividerSelect → ℕ) → ℕ → ℕ → DividerSelect → Answer
+sck_by factor pll m d =
     cond (ltb 31 m || too_large d)
     (record { number = 12; hz = 0 })
-    (record { number = 0; hz = module_clock pll m / factor_of d })
+    (record { number = 0; hz = module_clock pll m / factor d })
+
+abbrev pub sck : ℕ → ℕ → DividerSelect → Answer
+sck = sck_by factor_of

@@ -11,13 +11,17 @@ apart a b = (a - b) + (b - a)
 abbrev pub distance : ℕ → ℕ → ℕ → ℕ
 distance pll target i = apart (rate pll i) target
 
--- candidate i is the choice: it is eligible; none is nearer to the target; among equally near ones it is not above the target
--- if any is not; and among those it is the first scanned
+-- candidate i is the choice: it is eligible; none is nearer to the target; among equally near ones it is not above the
+-- target if any is not; and among those it is the first scanned
 pub record IsChoice (pll target i : ℕ) : Type 0 where
   pub eligible : Eligible pll i
   pub nearest : (j : ℕ) → Eligible pll j → distance pll target i ≤ distance pll target j
   pub not_above_lem :
-      (j : ℕ) → Eligible pll j → distance pll target j ≡ distance pll target i → rate pll j ≤ target → rate pll i ≤ target
+      (j : ℕ) →
+      Eligible pll j →
+      distance pll target j ≡ distance pll target i →
+      rate pll j ≤ target →
+      rate pll i ≤ target
   pub first :
       (j : ℕ) →
       Eligible pll j →

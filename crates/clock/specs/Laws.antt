@@ -22,7 +22,8 @@ Nearest =
 abbrev pub NotAboveAmongEquals : Type 0
 NotAboveAmongEquals =
     (pll target : ℕ) → pll < 2 ^ 32 → target < 2 ^ 32 → (j : ℕ) → Eligible pll j
-    → distance pll target j ≡ distance pll target (chosen pll target) → rate pll j ≤ target → rate pll (chosen pll target) ≤ target
+    → distance pll target j ≡ distance pll target (chosen pll target) → rate pll j ≤ target
+    → rate pll (chosen pll target) ≤ target
 
 -- Among those it is the first scanned.
 abbrev pub FirstAmongThose : Type 0
@@ -31,9 +32,11 @@ FirstAmongThose =
     → distance pll target j ≡ distance pll target (chosen pll target)
     → (rate pll (chosen pll target) ≤ target → rate pll j ≤ target) → chosen pll target ≤ j
 
--- Where none is eligible it is m = 0, Cdr1 0: for every target at a PLL of 0, and from 3,200,000,032 on (P5 has no target in document 01).
+-- Where none is eligible it is m = 0, Cdr1 0: for every target at a PLL of 0, and from 3,200,000,032 on (P5 has no
+-- target in document 01).
 abbrev pub NoneEligibleFallsBack : Type 0
-NoneEligibleFallsBack = (pll target : ℕ) → pll < 2 ^ 32 → target < 2 ^ 32 → NoneEligible pll → choice pll target ≡ fallback
+NoneEligibleFallsBack =
+    (pll target : ℕ) → pll < 2 ^ 32 → target < 2 ^ 32 → NoneEligible pll → choice pll target ≡ fallback
 
 abbrev pub NoClock : Type 0
 NoClock = (target : ℕ) → target < 2 ^ 32 → choice 0 target ≡ fallback

@@ -1,7 +1,9 @@
+pub mod Factors
 pub mod Candidate
 pub mod Choose
 pub mod Rank
 pub mod Skip
 pub mod Answer
+pub mod Formulas
 pub mod Dummies
 pub mod Laws

@@ -1,4 +1,5 @@
--- `clock::select_clock` meets its contract. Both loops keep in `best` the lowest rank of the candidates passed. Assumes nothing.
+-- `clock::select_clock` meets its contract. Both loops keep in `best` the lowest rank of the candidates passed. Assumes
+-- nothing.
 use mathlib.Core.Path.{◌≡◌}
 use Prim.Native.Nat.{◌+◌, ◌-◌, ◌*◌, ◌≤◌}
 use Rattle.clock.specs.Rank.{lowest}
