@@ -12,6 +12,7 @@ pub mod Entry
 pub mod Next
 pub mod Finally
 pub mod Frame
+pub mod Own
 pub mod Kept
 pub mod More
 pub mod Positions

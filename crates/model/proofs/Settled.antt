@@ -9,18 +9,20 @@ use Rattle.model.specs.Event.{head_of, value_of, answer_of, answers_of, receive,
 use Rattle.model.specs.Tally.{plus, poll_tally, tally_event, tally_of}
 use Rattle.model.specs.Steps.{then, finally, wait_for}
 use Rattle.model.specs.Steps.End.{done}
-use Rattle.model.specs.Run.{answered, poll, run}
+use Rattle.model.specs.Run.{entered, answered, poll, run}
 use Rattle.model.specs.State.{room_of, ran, onward, advance, called}
 use Rattle.model.specs.Frame.Inside.{ends, gets}
-use Rattle.model.specs.Settled.{end_of, fetched, Settled, HypothesesMet}
+use Rattle.model.specs.Own.{own, Copied}
+use Rattle.model.specs.Own.Copied.{sends}
+use Rattle.model.specs.Settled.{end_of, fetched, sent_after, Settled, HypothesesMet}
 use Rattle.model.proofs.Called.{refusal_not_met}
 use Rattle.model.proofs.Refusable.{limited_steady}
 use Rattle.model.proofs.Polls.{wait_bounded}
 use Rattle.model.proofs.Supported.{wait_supported}
 
 pub settled : Settled
-unfolding end_of fetched get_field head_of value_of answer_of answers_of receive words stored plus poll_tally tally_event tally_of then finally wait_for
-    answered poll run room_of ran onward advance
+unfolding end_of fetched sent_after own get_field head_of value_of answer_of answers_of receive words stored plus poll_tally tally_event tally_of then finally wait_for
+    entered answered poll run room_of ran onward advance
 settled =
     record {
       full = refl;
@@ -33,6 +35,7 @@ settled =
       tried_late = refl;
       fetched_memory = refl;
       fetched_log = refl;
+      sent_after_log = refl;
     }
 
 pub hypotheses_met : HypothesesMet
@@ -49,4 +52,5 @@ hypotheses_met =
       dry = refl;
       refused = refusal_not_met 6 (omega arith) (omega arith);
       inside = gets {i = 2} {j = 1} refl (omega arith) (ends done);
+      copied = sends 1 (Copied.ends done);
     }

@@ -16,4 +16,5 @@ pub mod Polls
 pub mod Supported
 pub mod Order
 pub mod Frame
+pub mod Own
 pub mod Settled

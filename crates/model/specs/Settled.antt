@@ -1,9 +1,10 @@
 -- Settled instances that the machine alone decides, and an instance of each law's hypothesis.
 use Rattle.std.specs.Prelude.{◌≡◌, false, List, [], ◌∷◌, ℕ, replicate}
 use Rattle.model.specs.Wait.Cause.{empty, start}
+use Rattle.model.specs.Event.Act.{send}
 use Rattle.model.specs.Steps.{Steps, then, finally, wait_for}
 use Rattle.model.specs.Steps.End.{done, unsupported}
-use Rattle.model.specs.Steps.Steps.{end, get}
+use Rattle.model.specs.Steps.Steps.{end, act, get}
 use Rattle.model.specs.Run.{run}
 use Rattle.model.specs.State.{State, begun, advance, called}
 use Rattle.model.specs.Limit.{AnotherLimitMet}
@@ -13,6 +14,7 @@ use Rattle.model.specs.Polls.{only, Bounded}
 use Rattle.model.specs.Supported.{Supported}
 use Rattle.model.specs.Order.{BeginsWithRead}
 use Rattle.model.specs.Frame.{Inside}
+use Rattle.model.specs.Own.{own, Copied}
 
 -- number, entries, answers, polls, longest of some steps with so many words of log
 unfoldable pub end_of : Steps → ℕ → ℕ → List ℕ → List ℕ
@@ -23,6 +25,10 @@ end_of s limit size answers =
 -- two bytes got into a memory of three, with one answer
 unfoldable pub fetched : State
 fetched = advance (get 1 (get 2 (end done))) 1 (0x1aa ∷ []) (begun (replicate 5 7) (1 ∷ 2 ∷ 3 ∷ []))
+
+-- a byte got into a memory of two, then the memory's two bytes sent from there, with one answer
+unfoldable pub sent_after : State
+sent_after = advance (own (get 0 (act (send 0) (act (send 1) (end done))))) 1 (0x1aa ∷ []) (begun (replicate 6 7) (1 ∷ 2 ∷ []))
 
 pub record Settled : Type 0 where
   -- without room 10, also without an answer; three words are room for one entry
@@ -39,6 +45,8 @@ pub record Settled : Type 0 where
   -- a byte is its answer's low eight bits; the byte not received, the log past the entry and its odd last word keep their values
   pub fetched_memory : fetched.memory ≡ 1 ∷ 0xaa ∷ 3 ∷ []
   pub fetched_log : fetched.log ≡ 0x40300 ∷ 0xaa ∷ 7 ∷ 7 ∷ 7 ∷ []
+  -- sent from the memory itself a byte received before is sent, where a copy would have the one that it replaced
+  pub sent_after_log : sent_after.log ≡ 0x40300 ∷ 0xaa ∷ 0x30200 ∷ 0xaa ∷ 0x30200 ∷ 2 ∷ []
 
 -- What the laws ask for can be had.
 pub record HypothesesMet : Type 0 where
@@ -54,3 +62,4 @@ pub record HypothesesMet : Type 0 where
   -- a call whose number no steps end in
   pub refused : Met (called 6 (wait_for start) 1 [] [] []).number → ⊥
   pub inside : Inside 1 2 (get 2 (end done)) (get 1 (end done))
+  pub copied : Copied (5 ∷ 6 ∷ []) (act (send 1) (end done)) (act (send 6) (end done))

@@ -24,15 +24,13 @@ pub fn transfer(
     qspi::phase::rx_phase(block, read)
 }
 
-// A part of a transfer in place: a copy of it is written, then the part is read.
+// A part of a transfer in place: it is written as it stands, then read.
 fn transfer_part(block: &mut RegisterBlock<'_>, chunk: &mut [u8]) -> Result<(), QspiError>
     requires { length chunk.old ≤ 256 }
     ensures { GoesOn (part_steps 0 (length chunk.old)) block.old chunk.old block.new chunk.new result }
 {
-    let mut temp = [0u8; PART];
-    let len = chunk.len();
-    temp[..len].copy_from_slice(chunk);
-    transfer(block, chunk, &temp[..len])
+    qspi::phase::tx_phase(block, chunk, true)?;
+    qspi::phase::rx_phase(block, chunk)
 }
 
 // Writes and reads back `words` by parts.
