@@ -176,7 +176,8 @@ uint32_t qspi_transfer(uint32_t limit, uint32_t *log, size_t log_len, const uint
                        struct qspi_counts *counts);
 
 /*
- * Writes `bytes` and reads as many back in their place, by parts of 256 bytes: each part is written, then read.
+ * Writes `bytes` and reads as many back in their place, by parts of 256 bytes: each part is written, then read. No copy
+ * of a part is made.
  * Gives 7; at an access: 10, 11; 1 in a wait; else 0. No length is refused.
  */
 uint32_t qspi_transfer_in_place(uint32_t limit, uint32_t *log, size_t log_len, const uint32_t *answers,

@@ -122,7 +122,8 @@ pub fn transfer(lent: &mut Lent, read: &mut [u8], write: &[u8]) -> Ended {
     made!(qspi_transfer, lent, read.as_mut_ptr(), read.len(), write.as_ptr(), write.len())
 }
 
-/// Writes the bytes and reads as many back in their place, by parts of 256. Gives 0, 1, 7, 10 or 11.
+/// Writes the bytes and reads as many back in their place, by parts of 256; no copy of a part is made. Gives 0, 1, 7, 10
+/// or 11.
 pub fn transfer_in_place(lent: &mut Lent, bytes: &mut [u8]) -> Ended {
     made!(qspi_transfer_in_place, lent, bytes.as_mut_ptr(), bytes.len())
 }

@@ -28,10 +28,14 @@ pub part_runs : {limit : ℕ} {answers : List ℕ} {p r : Progress} {log log' pa
     → Runs (part_steps 0 (length part)) limit answers p log part r log' part'
 unfolding part_steps
 part_runs {limit} {answers} {p} {log = log} {part = part} e f =
-    record { sound = f.sound; state = f.state ∙ sym (look_next _ limit answers (state_of p log part) ∙ rw (take-length part, e) refl) }
+    record {
+      sound = f.sound;
+      state = f.state ∙ sym (look_next _ limit answers (state_of p log part) ∙ rw (take-length part, e) refl);
+    }
 
 -- k bytes from index i on, of a memory that stands in a larger one
-inner : (before m behind : List ℕ) (i k : ℕ) → i + k ≤ length m → take k (drop (length before + i) (before ++ (m ++ behind))) ≡ take k (drop i m)
+inner : (before m behind : List ℕ) (i k : ℕ) → i + k ≤ length m
+    → take k (drop (length before + i) (before ++ (m ++ behind))) ≡ take k (drop i m)
 inner before m behind i k h =
     rw (drop-append-add before (m ++ behind) i, drop-append-le i m behind (omega arith))
     (take-append-le k (drop i m) behind (simp length-drop (omega arith)))
@@ -42,9 +46,11 @@ unfolding part_steps transfer_steps
 part_inside at n i k h = looks inside
   where
     inside : (before m behind : List ℕ) → length before ≡ at → length m ≡ n
-        → Inside at n (transfer_steps (take k (drop (at + i) (before ++ (m ++ behind)))) (at + i) k) (transfer_steps (take k (drop i m)) i k)
+        → Inside at n (transfer_steps (take k (drop (at + i) (before ++ (m ++ behind)))) (at + i) k)
+        (transfer_steps (take k (drop i m)) i k)
     inside before m behind b l =
-        rw (← b, inner before m behind i k (omega arith)) (then_inside (tx_inside _ (take k (drop i m))) (rx_inside i k (omega arith)))
+        rw (← b, inner before m behind i k (omega arith))
+        (then_inside (tx_inside _ (take k (drop i m))) (rx_inside i k (omega arith)))
 
 parts_inside : (count at n i k : ℕ) → i + k ≤ n → Inside at n (parts count (at + i) k) (parts count i k)
 unfolding parts
@@ -71,13 +77,16 @@ parts_next i n len h e =
 
 -- the next part exchanged
 pub exchanging_more : {buf buf' answers : List ℕ} {limit : ℕ} {p r : Progress} {log log' : List ℕ} {i : ℕ}
-    → Through in_place_steps buf limit answers p log r log' buf' i → (len : ℕ) {t : Progress} {log'' part' : List ℕ} → i < length buf → len ≡ min 256 (length buf - i)
+    → Through in_place_steps buf limit answers p log r log' buf' i
+    → (len : ℕ) {t : Progress} {log'' part' : List ℕ} → i < length buf → len ≡ min 256 (length buf - i)
     → length part' ≡ length (take len (drop i buf'))
     → Runs (part_steps 0 (length (take len (drop i buf')))) limit answers r log' (take len (drop i buf')) t log'' part'
-    → Through in_place_steps buf limit answers p log t log'' (take i buf' ++ (part' ++ drop len (drop i buf'))) (i + len)
+    → Through in_place_steps buf limit answers p log t log''
+    (take i buf' ++ (part' ++ drop len (drop i buf'))) (i + len)
 exchanging_more {buf} {buf'} {answers} {limit} {r = r} {log' = log'} {i = i} on len {part' = part'} h e k f =
     let s = on.same in
     let l = part_length i len buf' (omega arith) in
     through_more on part' len (omega arith) k
     (on.state ∙ ap (λ s. advance s limit answers (state_of r log' buf')) (parts_next i (length buf) len h e))
-    (runs_part (part_steps i len) (part_steps 0 len) i len (omega arith) (rw add-zero at (part_inside i len 0 len (omega arith))) (rw l at f))
+    (runs_part (part_steps i len) (part_steps 0 len) i len (omega arith)
+    (rw add-zero at (part_inside i len 0 len (omega arith))) (rw l at f))
