@@ -28,7 +28,8 @@ fetched = advance (get 1 (get 2 (end done))) 1 (0x1aa ∷ []) (begun (replicate 
 
 -- a byte got into a memory of two, then the memory's two bytes sent from there, with one answer
 unfoldable pub sent_after : State
-sent_after = advance (own (get 0 (act (send 0) (act (send 1) (end done))))) 1 (0x1aa ∷ []) (begun (replicate 6 7) (1 ∷ 2 ∷ []))
+sent_after =
+    advance (own (get 0 (act (send 0) (act (send 1) (end done))))) 1 (0x1aa ∷ []) (begun (replicate 6 7) (1 ∷ 2 ∷ []))
 
 pub record Settled : Type 0 where
   -- without room 10, also without an answer; three words are room for one entry
