@@ -76,8 +76,12 @@ int main(int argc, char **argv) {
     for (size_t i = 0; i < WORDS; i++) {
         answers[i] = 1;
     }
-    if (argc > 1 && strcmp(argv[1], "--check") == 0) {
+    if (argc == 2 && strcmp(argv[1], "--check") == 0) {
         return taken(in_place_call) < taken(read_call) + PART ? 0 : 1;
+    }
+    if (argc > 1) {
+        fprintf(stderr, "error: --check is the only option\n");
+        return 2;
     }
     printf("| call | stack, bytes |\n|---|---|\n");
     row("write", write_call);

@@ -10,7 +10,7 @@ use Rattle.model.specs.Steps.{Steps, then}
 use Rattle.model.specs.Steps.End.{done, unsupported}
 use Rattle.model.specs.Run.{Outcome, after, run}
 use Rattle.model.specs.Own.{own, Copied, OwnAsCopied}
-use Rattle.model.specs.Own.Copied.{ends, writes, sends, delays, asks, waits}
+use Rattle.model.specs.Own.Copied.{ends, writes, sends, delays, asks, looks, waits}
 use Rattle.model.proofs.Carries.{Carries, entered_carries, answered_carries, poll_carries}
 
 module _ (m : List ℕ) where
@@ -33,6 +33,7 @@ module _ (m : List ℕ) where
   runs (asks q h) l b r ws =
       answered_carries alike (heard q) (heard q) (λ x o o' e. ap (after _) e) r ws _ _
       (λ x r' ws'. runs (h _) l b r' ws')
+  runs (looks h) l b r ws = runs h l b r ws
   runs (waits c h i) l b r ws =
       poll_carries alike c _ _ _ _ (λ x r' ws'. runs (h x) l b r' ws') (λ r' ws'. runs i l true r' ws') l 0 r ws
 
@@ -45,6 +46,7 @@ module _ (m : List ℕ) where
   copied_then (sends i h) j = sends i (copied_then h j)
   copied_then (delays cycles h) j = delays cycles (copied_then h j)
   copied_then (asks q h) j = asks q (λ x. copied_then (h x) j)
+  copied_then (looks h) j = looks (copied_then h j)
   copied_then (waits c h i) j = waits c (λ x. copied_then (h x) j) i
 
 pub own_as_copied : OwnAsCopied

@@ -26,6 +26,7 @@ pub data Copied (m : List ℕ) : Steps → Steps → Type 0 where
   sends : (i : ℕ) {s t : Steps} → Copied m s t → Copied m (act (send i) s) (act (send (get_or m i 0)) t)
   delays : (cycles : ℕ) {s t : Steps} → Copied m s t → Copied m (act (delay cycles) s) (act (delay cycles) t)
   asks : (q : Ask) {k l : ℕ → Steps} → ((x : ℕ) → Copied m (k x) (l x)) → Copied m (ask q k) (ask q l)
+  looks : {k l : List ℕ → Steps} → Copied m (k m) (l m) → Copied m (look k) (look l)
   waits : (c : Cause) {k l : ℕ → Steps} {u v : Steps} → ((n : ℕ) → Copied m (k n) (l n)) → Copied m u v
       → Copied m (wait c k u) (wait c l v)
 

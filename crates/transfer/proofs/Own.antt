@@ -95,10 +95,10 @@ part_own : (at n limit : ℕ) (answers : List ℕ) (st : State) → at + n ≤ l
     → advance (own_part_steps at n) limit answers st ≡ advance (part_steps at n) limit answers st
 unfolding own_part_steps part_steps transfer_steps
 part_own at n limit ws st h =
-    advance_then _ (rx_phase at n) limit ws st
+    advance_then (own (tx_phase true (range_with_len at n))) (rx_phase at n) limit ws st
     ∙ ap (advance (rx_phase at n) limit ws) (sent_own at n limit ws st h)
-    ∙ sym (advance_then _ (rx_phase at n) limit ws st)
-    ∙ sym (look_next _ limit ws st)
+    ∙ sym (advance_then (tx_phase true (take n (drop at st.memory))) (rx_phase at n) limit ws st)
+    ∙ sym (look_next (λ m. transfer_steps (take n (drop at m)) at n) limit ws st)
 
 parts_own : (count at n limit : ℕ) (answers : List ℕ) (st : State) → at + n ≤ length st.memory
     → advance (own_parts count at n) limit answers st ≡ advance (parts count at n) limit answers st

@@ -7,7 +7,7 @@ use native.Mathlib.Nat.{add-zero, add_assoc}
 use lib.ListN.{length, take, drop, length-drop}
 use lib.Seq.{take-length, take-append-le, drop-append-le, drop-append-add}
 use Rattle.model.specs.Steps.{then}
-use Rattle.model.specs.State.{advance}
+use Rattle.model.specs.State.{State, advance}
 use Rattle.model.specs.Frame.{Inside}
 use Rattle.model.specs.Steps.End.{done}
 use Rattle.model.specs.Steps.Steps.{end}
@@ -30,8 +30,11 @@ unfolding part_steps
 part_runs {limit} {answers} {p} {log = log} {part = part} e f =
     record {
       sound = f.sound;
-      state = f.state ∙ sym (look_next _ limit answers (state_of p log part) ∙ rw (take-length part, e) refl);
+      state = f.state ∙ sym (look_next _ limit answers (state_of p log part) ∙ ap sending (take-length part ∙ sym e));
     }
+  where
+    sending : List ℕ → State
+    sending bs = advance (transfer_steps bs 0 (length part)) limit answers (state_of p log part)
 
 -- k bytes from index i on, of a memory that stands in a larger one
 inner : (before m behind : List ℕ) (i k : ℕ) → i + k ≤ length m
