@@ -26,9 +26,9 @@ impl Lines {
     {
         let control = TransMiscControl(word);
         match self {
-            Lines::One => control.disable_quad().disable_dual().0,
-            Lines::Two => control.disable_quad().enable_dual().0,
-            Lines::Four => control.enable_quad().disable_dual().0,
+            Lines::One => control.disable_quad().disable_dual().disable_qpi().0,
+            Lines::Two => control.disable_quad().enable_dual().disable_qpi().0,
+            Lines::Four => control.enable_quad().disable_dual().disable_qpi().0,
             Lines::Qpi => control.enable_quad().enable_qpi().0,
         }
     }

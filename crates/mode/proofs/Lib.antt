@@ -1,1 +1,2 @@
 pub mod Mode
+pub mod Leaves

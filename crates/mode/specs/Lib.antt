@@ -1,2 +1,3 @@
 pub mod Mode
 pub mod Of
+pub mod Leaves

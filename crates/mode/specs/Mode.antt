@@ -1,4 +1,4 @@
--- The steps of a mode (document 01, "Mode").
+-- The steps of a mode (document 01, "Mode", as document 02, request 1, changes it).
 use Rattle.std.specs.Prelude.{Bool, true, false, ℕ}
 use Rattle.model.specs.Field.{set_field}
 use Rattle.model.specs.Wait.Cause.{start}
@@ -8,10 +8,11 @@ use Rattle.model.specs.Steps.Steps.{end}
 use Rattle.config.specs.declared.config.WorkMode.{WorkMode}
 use Rattle.config.specs.declared.config.WorkMode.TheVariants.{Standard, ThreeWire, Dual, DualIO, Quad, QuadIO, Qpi}
 
--- 038 bits 29 and 28, then 008 bit 25
+-- 038 bits 29 and 28, and by request 1 bit 31 clear in the same change; then 008 bit 25
 unfoldable pub lines : ℕ → ℕ → ℕ → Steps
 lines quad dual three =
-    then (change 0x038 (λ w. set_field 28 1 dual (set_field 29 1 quad w))) (change 0x008 (set_field 25 1 three))
+    then (change 0x038 (λ w. set_field 31 1 0 (set_field 28 1 dual (set_field 29 1 quad w))))
+    (change 0x008 (set_field 25 1 three))
 
 -- 038 bits 29 and 31 only; unsupported on a chip without QPI
 unfoldable pub qpi_mode : Bool → Steps

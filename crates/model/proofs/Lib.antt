@@ -13,6 +13,7 @@ pub mod Next
 pub mod Finally
 pub mod Frame
 pub mod Own
+pub mod Written
 pub mod Kept
 pub mod More
 pub mod Positions

@@ -14,6 +14,7 @@ use Rattle.model.specs.State.{room_of, ran, onward, advance, called}
 use Rattle.model.specs.Frame.Inside.{ends, gets}
 use Rattle.model.specs.Own.{own, Copied}
 use Rattle.model.specs.Own.Copied.{sends}
+use Rattle.model.specs.Written.{rewritten, last_written}
 use Rattle.model.specs.Settled.{end_of, fetched, sent_after, Settled, HypothesesMet}
 use Rattle.model.proofs.Called.{refusal_not_met}
 use Rattle.model.proofs.Refusable.{limited_steady}
@@ -21,7 +22,7 @@ use Rattle.model.proofs.Polls.{wait_bounded}
 use Rattle.model.proofs.Supported.{wait_supported}
 
 pub settled : Settled
-unfolding end_of fetched sent_after own get_field head_of value_of answer_of answers_of receive words stored plus
+unfolding end_of fetched sent_after own rewritten last_written get_field head_of value_of answer_of answers_of receive words stored plus
     poll_tally tally_event tally_of then finally wait_for entered answered poll run room_of ran onward advance
 settled =
     record {
@@ -36,6 +37,7 @@ settled =
       fetched_memory = refl;
       fetched_log = refl;
       sent_after_log = refl;
+      last = refl;
     }
 
 pub hypotheses_met : HypothesesMet

@@ -17,4 +17,5 @@ pub mod Supported
 pub mod Order
 pub mod Frame
 pub mod Own
+pub mod Written
 pub mod Settled

@@ -1,7 +1,8 @@
 -- Settled instances that the machine alone decides, and an instance of each law's hypothesis.
-use Rattle.std.specs.Prelude.{◌≡◌, false, List, [], ◌∷◌, ℕ, replicate}
+use Rattle.std.specs.Prelude.{◌≡◌, false, List, [], ◌∷◌, ℕ, replicate, None, Some}
 use Rattle.model.specs.Wait.Cause.{empty, start}
-use Rattle.model.specs.Event.Act.{send}
+use Rattle.model.specs.Event.Act.{write, send}
+use Rattle.model.specs.Event.Event.{did}
 use Rattle.model.specs.Steps.{Steps, then, finally, wait_for}
 use Rattle.model.specs.Steps.End.{done, unsupported}
 use Rattle.model.specs.Steps.Steps.{end, act, get}
@@ -15,6 +16,7 @@ use Rattle.model.specs.Supported.{Supported}
 use Rattle.model.specs.Order.{BeginsWithRead}
 use Rattle.model.specs.Frame.{Inside}
 use Rattle.model.specs.Own.{own, Copied}
+use Rattle.model.specs.Written.{last_written}
 
 -- number, entries, answers, polls, longest of some steps with so many words of log
 unfoldable pub end_of : Steps → ℕ → ℕ → List ℕ → List ℕ
@@ -48,6 +50,8 @@ pub record Settled : Type 0 where
   pub fetched_log : fetched.log ≡ 0x40300 ∷ 0xaa ∷ 7 ∷ 7 ∷ 7 ∷ []
   -- sent from the memory itself a byte received before is sent, where a copy would have the one that it replaced
   pub sent_after_log : sent_after.log ≡ 0x40300 ∷ 0xaa ∷ 0x30200 ∷ 0xaa ∷ 0x30200 ∷ 2 ∷ []
+  -- of two words written to a place the second is the last, and a word written elsewhere is none of them
+  pub last : last_written 0x38 None (did (write 0x38 1) ∷ did (write 0x38 2) ∷ did (write 8 3) ∷ []) ≡ Some 2
 
 -- What the laws ask for can be had.
 pub record HypothesesMet : Type 0 where

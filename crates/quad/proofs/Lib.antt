@@ -1,3 +1,4 @@
 pub mod Framed
 pub mod Quad
 pub mod Standard
+pub mod Leaves

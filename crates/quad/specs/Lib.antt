@@ -1,3 +1,4 @@
 pub mod Quad
 pub mod Frames
 pub mod Standard
+pub mod Leaves

@@ -309,6 +309,13 @@ impl TransMiscControl {
         Self((self.0 & !(0x1 << 31)) | ((0x1 & 0x1) << 31))
     }
 
+    // Disable QPI transfer mode (QPI_EN, bit 31).
+    pub fn disable_qpi(self) -> Self
+        ensures { result.0 ≡ set_field 31 1 0 self.0 }
+    {
+        Self((self.0 & !(0x1 << 31)) | ((0x0 & 0x1) << 31))
+    }
+
     // Enable quad data transfer mode (QUAD_EN, bit 29).
     pub fn enable_quad(self) -> Self
         ensures { result.0 ≡ set_field 29 1 1 self.0 }

@@ -4,6 +4,8 @@ use Rattle.std.proofs.lemmas.Slice.Eq.{bytes_eq-Decides}
 use Rattle.verdicts.specs.declared.Verdict.{Verdict}
 use Rattle.cases.specs.Number.{number_of, is_hex, value_of, step, digit_of, in_32}
 use Rattle.verdicts.specs.Refused.{has_own, oracles_own, refusable, refused, refused_end, refusing}
+use Rattle.verdicts.specs.Modes.{modes_of}
+use Rattle.verdicts.specs.Leaves.{has_modes, mode_word, halved, due_byte}
 use Rattle.verdicts.specs.Departures.{agreed}
 use Rattle.verdicts.specs.Judged.{judged}
 use Rattle.verdicts.specs.Laws.{SameAreEqual, EqualAreSame, ExcludedIsAgreed, HypothesesMet}
@@ -22,20 +24,26 @@ excluded_if None false e = cc
 excluded_if (Some true) s e = refl
 excluded_if (Some false) s e = cc
 
+equal_if : (r : Option Bool) → (r ≡ Some false → ⊥) → verdict (unwrap_or r true) true ≡ Verdict.Same
+equal_if None n = refl
+equal_if (Some true) n = refl
+equal_if (Some false) n = absurd (n refl)
+
 pub same_are_equal : SameAreEqual
 unfolding judged
-same_are_equal case oracle library e = (bytes_eq-Decides oracle library).0 (same_if _ _ e)
+same_are_equal name numbers oracle library e = (bytes_eq-Decides oracle library).0 (same_if _ _ e)
 
 pub equal_are_same : EqualAreSame
 unfolding judged
-equal_are_same case answer none = let e : bytes_eq answer answer ≡ true = (bytes_eq-Decides answer answer).1 refl in
-    rw (none, e) refl
+equal_are_same name numbers answer none =
+    let e : bytes_eq answer answer ≡ true = (bytes_eq-Decides answer answer).1 refl in
+    rw e (equal_if _ none)
 
 pub excluded_is_agreed : ExcludedIsAgreed
 unfolding judged
-excluded_is_agreed case oracle library e = excluded_if (agreed case oracle library) _ e
+excluded_is_agreed name numbers oracle library e = excluded_if (agreed name numbers oracle library) _ e
 
 pub hypotheses_met : HypothesesMet
 unfolding judged agreed has_own oracles_own refusable refused refused_end refusing
-    number_of is_hex value_of step digit_of in_32
-hypotheses_met = (refl, refl, refl)
+    number_of is_hex value_of step digit_of in_32 has_modes mode_word halved due_byte modes_of
+hypotheses_met = (refl, refl, refl, refl, refl, refl)

@@ -1,7 +1,7 @@
 // The verdict on a case: the oracle's answer against the library's, but for agreed departures; the tally of verdicts.
 #![tactic(auto)]
 
-ghost use Rattle.std.specs.Prelude.{◌≡◌};
+ghost use Rattle.std.specs.Prelude.{◌≡◌, IfOk};
 ghost use Rattle.verdicts.specs.Refused.{oracles_own, has_own, refusing, refused_end, refused, refusable};
 ghost use Rattle.verdicts.specs.Departures.{agreed};
 ghost use Rattle.verdicts.specs.Judged.{judged};
@@ -9,6 +9,10 @@ ghost use Rattle.verdicts.specs.Tallied.{none, tallied};
 ghost use Rattle.verdicts.specs.declared.Verdict.{Verdict};
 
 use config::QspiError;
+use std::alloc::{AllocError, Global};
+
+mod leaves;
+mod modes;
 
 // What the comparison of a case found.
 #[derive(Clone, Copy, Debug, PartialEq, Eq)]
@@ -135,28 +139,45 @@ fn may_be_refused(name: &[u8]) -> bool
 }
 
 // The agreed departures from the Rust, a row each: which cases it is about, and whether the library answered what is
-// then due. None where the case is none of them.
+// then due. None where the case is none of them. The case's name and the numbers of its line.
 #[tactic(auto, unfolding(crate::specs::Departures::agreed))]
-fn agreed(case: &[u8], oracle: &[u8], library: &[u8]) -> Option<bool>
-    ensures { result ≡ agreed case.now oracle.now library.now }
+fn agreed(
+    alloc: Global,
+    name: &[u8],
+    numbers: &[u32],
+    oracle: &[u8],
+    library: &[u8],
+) -> Result<Option<bool>, AllocError>
+    ensures { IfOk result (λ r. r ≡ agreed name.now numbers.now oracle.now library.now) }
 {
-    let name = cases::name(case);
     // The Rust panics, or has no form for the case; the call is refused.
     if may_be_refused(name) && has_oracles_own_line(oracle) {
-        return Some(is_refusal(name, library));
+        return Ok(Some(is_refusal(name, library)));
     }
-    None
+    // A mode that leaves QPI clears bit 31 of 038; the Rust keeps it.
+    if leaves::has_modes(name) {
+        let modes = modes::of(alloc, name, numbers)?;
+        return Ok(Some(leaves::is_due(&modes, oracle, library)));
+    }
+    Ok(None)
 }
 
-// What the oracle answered to a case against what the library did.
+// What the oracle answered to a case against what the library did. The case's name and the numbers of its line.
 #[tactic(auto, unfolding(crate::specs::Judged::judged))]
-pub fn judge(case: &[u8], oracle: &[u8], library: &[u8]) -> Verdict
-    ensures { result ≡ judged case.now oracle.now library.now }
+pub fn judge(
+    alloc: Global,
+    name: &[u8],
+    numbers: &[u32],
+    oracle: &[u8],
+    library: &[u8],
+) -> Result<Verdict, AllocError>
+    ensures { IfOk result (λ v. v ≡ judged name.now numbers.now oracle.now library.now) }
 {
     let same = oracle == library;
-    match (agreed(case, oracle, library).unwrap_or(same), same) {
+    let allowed = agreed(alloc, name, numbers, oracle, library)?.unwrap_or(same);
+    Ok(match (allowed, same) {
         (true, true) => Verdict::Same,
         (true, false) => Verdict::Excluded,
         (false, _) => Verdict::Different,
-    }
+    })
 }

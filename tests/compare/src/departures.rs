@@ -1,6 +1,7 @@
 //! The agreed departures from the Rust: cases for which another answer of the port is due than the Rust's.
 
 use crate::due::refusal;
+use crate::leaves::{left, words};
 
 /// What is asked: the case line, and the number of the refusal that document 01 asks for, or 0.
 #[derive(Clone, Copy)]
@@ -18,11 +19,18 @@ pub struct Departure {
 }
 
 /// A row each. The first that is about a case decides.
-const DEPARTURES: [Departure; 1] = [Departure {
-    name: "the Rust panics or has no form, the port refuses",
-    about: |asked| asked.refused > 0,
-    answer: |asked, _| refusal(asked.line, asked.refused),
-}];
+const DEPARTURES: [Departure; 2] = [
+    Departure {
+        name: "the Rust panics or has no form, the port refuses",
+        about: |asked| asked.refused > 0,
+        answer: |asked, _| refusal(asked.line, asked.refused),
+    },
+    Departure {
+        name: "a mode leaves QPI, its word for 038 has bit 31 clear",
+        about: |asked| words(asked.line).contains(&true),
+        answer: |asked, oracle| left(oracle, &words(asked.line)),
+    },
+];
 
 /// The departure that is about a case, and the answer that is due by it.
 pub fn departure(asked: Asked, oracle: &str) -> Option<(&'static str, String)> {

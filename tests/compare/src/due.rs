@@ -2,18 +2,18 @@
 
 use crate::numbers::{Numbers, numbers};
 
-fn some(f: &mut Numbers, count: u64) -> Option<Vec<u64>> {
+pub fn some(f: &mut Numbers, count: u64) -> Option<Vec<u64>> {
     (0..count).map(|_| f.next()).collect()
 }
 
 /// The length of a buffer; its bytes are passed over.
-fn buffer(f: &mut Numbers) -> Option<u64> {
+pub fn buffer(f: &mut Numbers) -> Option<u64> {
     let (length, given) = (f.next()?, f.next()?);
     some(f, given).map(|_| length)
 }
 
 /// A buffer's bytes.
-fn bytes(f: &mut Numbers) -> Option<Vec<u64>> {
+pub fn bytes(f: &mut Numbers) -> Option<Vec<u64>> {
     let (length, given) = (f.next()?, f.next()?);
     let mut bytes = some(f, given)?;
     bytes.resize(length as usize, 0);
@@ -72,13 +72,19 @@ fn on_a_bus(name: &str, f: &mut Numbers) -> Option<u32> {
     })
 }
 
+/// A word of a sheet; 0 past its bytes.
+pub fn sheet_word(bytes: &[u64], i: usize) -> u64 {
+    let word = bytes.get(4 * i..4 * i + 4).unwrap_or_default();
+    word.iter().rev().fold(0, |word, byte| 256 * word + byte)
+}
+
 /// 13 comes before 7, and 7 before what the chain is refused by.
 fn sheet(bytes: &[u64]) -> u32 {
     let length = bytes.len() as u64;
     if !(20..=65_536).contains(&length) {
         return 13;
     }
-    let word = |i: usize| bytes[4 * i..4 * i + 4].iter().rev().fold(0, |word, byte| 256 * word + byte);
+    let word = |i| sheet_word(bytes, i);
     let [limit, qpi, records, answers] = [0, 2, 3, 4].map(word);
     let needed = 20 + 32 * records + 4 * answers;
     if qpi > 1 || needed > length {

@@ -34,6 +34,10 @@ mod tests {
         let flush = "r 0008 00000000\nend 0 1 1 1 0\n";
         let changed = format!("{flush}changed\n");
         let refused = Excluded("the Rust panics or has no form, the port refuses");
+        let left = Excluded("a mode leaves QPI, its word for 038 has bit 31 clear");
+        let [kept, clear, other] = ["f0000000", "70000000", "30000000"]
+            .map(|word| format!("r 0008 00000000\nr 0038 c0000000\nw 0038 {word}\nend 10 3 2 1 0\n"));
+        let [kept, clear, other] = [&kept, &clear, &other].map(String::as_str);
         for (line, oracle, port, verdict) in [
             ("flush 1 9 1 0", flush, flush, Same),
             ("flush 1 9 1 0", flush, &changed, Different),
@@ -46,6 +50,12 @@ mod tests {
             ("sck 9 32 1 0", "sck 0 0\n", "sck 12 0\n", refused),
             ("sck 9 31 1 0", "sck 0 0\n", "sck 12 0\n", Different),
             ("flash 1 1", "error x\n", "error x\n", Different),
+            ("mode 1 6 1 4 0", kept, clear, left),
+            ("mode 1 6 1 4 0", kept, kept, Different),
+            ("mode 1 6 1 4 0", kept, other, Different),
+            ("mode 1 6 1 4 0", clear, clear, Same),
+            ("mode 1 6 1 6 0", kept, kept, Same),
+            ("mode 1 6 1 6 0", kept, clear, Different),
         ] {
             assert_eq!(judge(line, oracle, port), verdict, "{line}: {port}");
         }

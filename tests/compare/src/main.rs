@@ -9,6 +9,7 @@ mod due;
 mod exhaustive;
 mod generate;
 mod judge;
+mod leaves;
 mod numbers;
 mod rng;
 mod sheet;

@@ -55,6 +55,15 @@ impl<'a> Walk<'a> {
         true
     }
 
+    /// A change of 038, whose word has bit 31 set three times of four.
+    fn control(&mut self) -> bool {
+        let bit = self.rng.pick(&[0, 1, 1, 1]) << 31;
+        let word = self.rng.word() & 0x7FFF_FFFF | bit;
+        self.answers.push(word);
+        self.entries += 2;
+        true
+    }
+
     pub fn delays(&mut self, n: usize) -> bool {
         self.entries += n;
         true
@@ -99,7 +108,9 @@ impl<'a> Walk<'a> {
         if length == 0 {
             return true;
         }
-        self.changes(5);
+        self.changes(3);
+        self.control();
+        self.changes(1);
         self.delays(1);
         let mut left = length.min(self.walked);
         while left > 0 {
@@ -124,7 +135,7 @@ impl<'a> Walk<'a> {
     }
 
     pub fn mode(&mut self, mode: usize, qpi: bool) -> bool {
-        self.flush() && (mode < 6 || qpi) && self.changes(if mode < 6 { 2 } else { 1 })
+        self.flush() && (mode < 6 || qpi) && self.control() && (mode == 6 || self.changes(1))
     }
 
     pub fn quad(&mut self, command: usize, data: usize, receives: bool) -> bool {
