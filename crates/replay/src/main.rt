@@ -39,9 +39,11 @@ fn report(rt: &impl Print, tally: Tally) -> io::Result<()> {
     println!(rt; "{replayed} replayed, {excluded} excluded, {differ} differ")
 }
 
-// The lines of the library's answer to a case of this name.
-fn answer(alloc: Global, name: &[u8], f: Fields<'_>) -> Result<Vec<u8>, Failure> {
-    match name {
+// The lines of the library's answer to a case.
+fn answer(alloc: Global, line: &[u8]) -> Result<Vec<u8>, Failure> {
+    let numbers = fields::parse(alloc, line)?;
+    let f = Fields { rest: &numbers };
+    match cases::name(line) {
         b"write" => call::write(alloc, f),
         b"read" => call::read(alloc, f),
         b"transfer" => call::transfer(alloc, f),
@@ -61,21 +63,14 @@ fn answer(alloc: Global, name: &[u8], f: Fields<'_>) -> Result<Vec<u8>, Failure>
     }
 }
 
-// The verdict on a case, by its line and the lines of the oracle's answer.
-fn verdict(alloc: Global, line: &[u8], oracle: &[u8]) -> Result<Verdict, Failure> {
-    let name = cases::name(line);
-    let numbers = fields::parse(alloc, line)?;
-    let library = answer(alloc, name, Fields { rest: &numbers })?;
-    Ok(verdicts::judge(alloc, name, &numbers, oracle, &library)?)
-}
-
 // One case: its line, and the lines of its answer.
 fn replay(alloc: Global, case: &[u8]) -> io::Result<Verdict> {
     let Some(end) = cases::find(case, 0, case.len(), b'\n') else {
         return Ok(Verdict::Different);
     };
-    match verdict(alloc, &case[..end], &case[end + 1..]) {
-        Ok(verdict) => Ok(verdict),
+    let line = &case[..end];
+    match answer(alloc, line) {
+        Ok(library) => Ok(verdicts::judge(alloc, line, &case[end + 1..], &library)?),
         Err(Failure::NoCase) => Ok(Verdict::Different),
         Err(Failure::Io(e)) => Err(e),
     }

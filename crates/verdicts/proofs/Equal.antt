@@ -4,7 +4,7 @@ use Rattle.std.proofs.lemmas.Slice.Eq.{bytes_eq-Decides}
 use Rattle.verdicts.specs.declared.Verdict.{Verdict}
 use Rattle.cases.specs.Number.{number_of, is_hex, value_of, step, digit_of, in_32}
 use Rattle.verdicts.specs.Refused.{has_own, oracles_own, refusable, refused, refused_end, refusing}
-use Rattle.verdicts.specs.Modes.{modes_of}
+use Rattle.verdicts.specs.Modes.{record_modes, modes_along, modes_of}
 use Rattle.verdicts.specs.Leaves.{has_modes, mode_word, halved, due_byte}
 use Rattle.verdicts.specs.Departures.{agreed}
 use Rattle.verdicts.specs.Judged.{judged}
@@ -31,19 +31,30 @@ equal_if (Some false) n = absurd (n refl)
 
 pub same_are_equal : SameAreEqual
 unfolding judged
-same_are_equal name numbers oracle library e = (bytes_eq-Decides oracle library).0 (same_if _ _ e)
+same_are_equal case oracle library e = (bytes_eq-Decides oracle library).0 (same_if _ _ e)
 
 pub equal_are_same : EqualAreSame
 unfolding judged
-equal_are_same name numbers answer none =
+equal_are_same case answer allowed =
     let e : bytes_eq answer answer ≡ true = (bytes_eq-Decides answer answer).1 refl in
-    rw e (equal_if _ none)
+    rw e (equal_if _ allowed)
 
 pub excluded_is_agreed : ExcludedIsAgreed
 unfolding judged
-excluded_is_agreed name numbers oracle library e = excluded_if (agreed name numbers oracle library) _ e
+excluded_is_agreed case oracle library e = excluded_if (agreed case oracle library) _ e
 
 pub hypotheses_met : HypothesesMet
 unfolding judged agreed has_own oracles_own refusable refused refused_end refusing
-    number_of is_hex value_of step digit_of in_32 has_modes mode_word halved due_byte modes_of
-hypotheses_met = (refl, refl, refl, refl, refl, refl)
+    number_of is_hex value_of step digit_of in_32 has_modes mode_word halved due_byte modes_of record_modes modes_along
+hypotheses_met =
+    record {
+      none = refl;
+      same = refl;
+      refused = refl;
+      leaves = refl;
+      stays = refl;
+      qpi_stays = refl;
+      qpi_leaves = refl;
+      sheet_leaves = refl;
+      sheet_stays = refl;
+    }

@@ -6,55 +6,67 @@ use Rattle.verdicts.specs.Judged.{judged}
 
 -- answers that are judged the same are equal
 abbrev pub SameAreEqual : Type 0
-SameAreEqual =
-    (name numbers oracle library : List ℕ) → judged name numbers oracle library ≡ Verdict.Same → oracle ≡ library
+SameAreEqual = (case oracle library : List ℕ) → judged case oracle library ≡ Verdict.Same → oracle ≡ library
 
 -- equal answers are judged the same, unless a departure asks for another
 abbrev pub EqualAreSame : Type 0
 EqualAreSame =
-    (name numbers answer : List ℕ) → (agreed name numbers answer answer ≡ Some false → ⊥)
-    → judged name numbers answer answer ≡ Verdict.Same
+    (case answer : List ℕ) → (agreed case answer answer ≡ Some false → ⊥) → judged case answer answer ≡ Verdict.Same
 
 -- what is excluded a departure is about, and allows
 abbrev pub ExcludedIsAgreed : Type 0
 ExcludedIsAgreed =
-    (name numbers oracle library : List ℕ) → judged name numbers oracle library ≡ Verdict.Excluded
-    → agreed name numbers oracle library ≡ Some true
+    (case oracle library : List ℕ) → judged case oracle library ≡ Verdict.Excluded
+    → agreed case oracle library ≡ Some true
 
--- a flush, the Rust's panic at limit 0, the refusal, and an end that is done
-abbrev flush_name : List ℕ
-flush_name = codes "flush"
+-- a flush
+abbrev asked : List ℕ
+asked = codes "flush 0 9 0"
 
+-- the Rust's panic at limit 0, and the refusal
 abbrev panics : List ℕ
 panics = codes "panic 0 0 0 0 limit" ++ 10 ∷ []
 
 abbrev refuses : List ℕ
 refuses = codes "end 7 0 0 0 0" ++ 10 ∷ []
 
+-- a flush that is done
 abbrev done : List ℕ
 done = codes "end 0 1 1 1 0" ++ 10 ∷ []
 
--- A mode that writes such a word to 038, with a log's lines of sixteen bytes. Its case: limit, log words, QPI, mode.
-abbrev over : List ℕ → List ℕ
-over word =
+-- the modes Quad and Qpi, cut behind the word that they write to 038, and that word as it was read and with bit 31 clear
+abbrev into_quad : List ℕ
+into_quad = codes "mode 1 6 1 4 2 0 0xc0000000"
+
+abbrev into_qpi : List ℕ
+into_qpi = codes "mode 1 6 1 6 2 0 0xc0000000"
+
+abbrev writes : List ℕ → List ℕ
+writes word =
     codes "r 0008 00000000" ++ 10 ∷ codes "r 0038 c0000000" ++ 10 ∷ codes "w 0038 " ++ word ++ 10 ∷ codes "end 10 3 2 1 0"
     ++ 10 ∷ []
 
-abbrev keeps : List ℕ
-keeps = over (codes "e0000000")
+abbrev kept : List ℕ
+kept = writes (codes "e0000000")
 
-abbrev clears : List ℕ
-clears = over (codes "60000000")
+abbrev cleared : List ℕ
+cleared = writes (codes "60000000")
 
--- into mode 4, Quad, and into mode 6, Qpi
-abbrev into : ℕ → List ℕ
-into mode = 1 ∷ 6 ∷ 1 ∷ mode ∷ []
+-- a sheet of one record, kind 7, by its mode, which is cut so too
+abbrev sheet_into : List ℕ → List ℕ
+sheet_into mode =
+    codes "sheet 60 60 1 0 0 0 0 0 0 0 1 0 0 0 1 0 0 0 2 0 0 0 7 0 0 0 " ++ mode
+    ++ codes " 0 0 0 0 0 0 0 0 0 0 0 0 0 0 0 0 0 0 0 0 0 0 0 0 0 0 0 0 0 0 0 0 0 192"
 
--- what these laws ask for can be had: no departure is about a flush that the Rust answers, and each row excludes a case
-abbrev pub HypothesesMet : Type 0
-HypothesesMet =
-    (agreed flush_name (0 ∷ 9 ∷ 0 ∷ []) done done ≡ None) × (judged flush_name (0 ∷ 9 ∷ 0 ∷ []) done done ≡ Verdict.Same)
-    × (judged flush_name (0 ∷ 9 ∷ 0 ∷ []) panics refuses ≡ Verdict.Excluded)
-    × (judged (codes "mode") (into 4) keeps clears ≡ Verdict.Excluded)
-    × (judged (codes "mode") (into 4) keeps keeps ≡ Verdict.Different)
-    × (judged (codes "mode") (into 6) keeps keeps ≡ Verdict.Same)
+-- What these laws ask for can be had: no departure is about a flush that the Rust answers, and each row excludes a case,
+-- and only where it says.
+pub record HypothesesMet : Type 0 where
+  pub none : agreed asked done done ≡ None
+  pub same : judged asked done done ≡ Verdict.Same
+  pub refused : judged asked panics refuses ≡ Verdict.Excluded
+  pub leaves : judged into_quad kept cleared ≡ Verdict.Excluded
+  pub stays : judged into_quad kept kept ≡ Verdict.Different
+  pub qpi_stays : judged into_qpi kept kept ≡ Verdict.Same
+  pub qpi_leaves : judged into_qpi kept cleared ≡ Verdict.Different
+  pub sheet_leaves : judged (sheet_into (codes "4")) kept cleared ≡ Verdict.Excluded
+  pub sheet_stays : judged (sheet_into (codes "6")) kept kept ≡ Verdict.Same

@@ -1,7 +1,13 @@
--- The modes that a case's call runs, in their order: whether each is another than QPI (tests/oracle/README.md says what a
--- case is). The numbers of the case's line come after its name.
+-- The modes that a case's call runs, in their order: whether each leaves QPI (tests/oracle/README.md says what a case is).
 use Rattle.std.specs.Prelude.{Bool, true, not, cond, List, [], ◌∷◌, ◌++◌, ℕ, zero, suc, ◌+◌, ◌*◌, ◌/◌, ◌%◌, eqb, length}
-use Rattle.std.specs.Prelude.{get_or, bytes_eq, codes}
+use Rattle.std.specs.Prelude.{get_or, drop, map, unwrap_or, ◌==◌, bytes_eq, codes}
+use Rattle.std.specs.List.{slice_split}
+use Rattle.cases.specs.Number.{number_of}
+use Rattle.cases.specs.Find.{name_of}
+
+-- the numbers of a case's line, after its name; 0 for a word that is none
+abbrev pub numbers_of : List ℕ → List ℕ
+numbers_of case = map (λ word. unwrap_or (number_of word) 0) (drop 1 (slice_split (λ b. b == 32) case))
 
 abbrev pub mode_name : List ℕ
 mode_name = codes "mode"
@@ -48,7 +54,7 @@ abbrev pub sheet_modes : List ℕ → List Bool
 sheet_modes numbers = modes_along numbers (first_record numbers) 0 (length numbers / 32 + 1)
 
 -- the mode of a mode call, those of a sheet, and the two of a quad call
-unfoldable pub modes_of : List ℕ → List ℕ → List Bool
-modes_of name numbers =
-    cond (bytes_eq name mode_name) (not (eqb (get_or numbers 3 0) 6) ∷ [])
-    (cond (bytes_eq name sheet_name) (sheet_modes numbers) (true ∷ true ∷ []))
+unfoldable pub modes_of : List ℕ → List Bool
+modes_of case =
+    cond (bytes_eq (name_of case) mode_name) (not (eqb (get_or (numbers_of case) 3 0) 6) ∷ [])
+    (cond (bytes_eq (name_of case) sheet_name) (sheet_modes (numbers_of case)) (true ∷ true ∷ []))

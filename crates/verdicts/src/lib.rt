@@ -139,42 +139,41 @@ fn may_be_refused(name: &[u8]) -> bool
 }
 
 // The agreed departures from the Rust, a row each: which cases it is about, and whether the library answered what is
-// then due. None where the case is none of them. The case's name and the numbers of its line.
+// then due. None where the case is none of them.
 #[tactic(auto, unfolding(crate::specs::Departures::agreed))]
 fn agreed(
     alloc: Global,
-    name: &[u8],
-    numbers: &[u32],
+    case: &[u8],
     oracle: &[u8],
     library: &[u8],
 ) -> Result<Option<bool>, AllocError>
-    ensures { IfOk result (λ r. r ≡ agreed name.now numbers.now oracle.now library.now) }
+    ensures { IfOk result (λ r. r ≡ agreed case.now oracle.now library.now) }
 {
+    let name = cases::name(case);
     // The Rust panics, or has no form for the case; the call is refused.
     if may_be_refused(name) && has_oracles_own_line(oracle) {
         return Ok(Some(is_refusal(name, library)));
     }
-    // A mode that leaves QPI clears bit 31 of 038; the Rust keeps it.
+    // Modes that leave QPI clear bit 31 of 038, where the Rust keeps it.
     if leaves::has_modes(name) {
-        let modes = modes::of(alloc, name, numbers)?;
+        let modes = modes::of(alloc, case)?;
         return Ok(Some(leaves::is_due(&modes, oracle, library)));
     }
     Ok(None)
 }
 
-// What the oracle answered to a case against what the library did. The case's name and the numbers of its line.
+// What the oracle answered to a case against what the library did.
 #[tactic(auto, unfolding(crate::specs::Judged::judged))]
 pub fn judge(
     alloc: Global,
-    name: &[u8],
-    numbers: &[u32],
+    case: &[u8],
     oracle: &[u8],
     library: &[u8],
 ) -> Result<Verdict, AllocError>
-    ensures { IfOk result (λ v. v ≡ judged name.now numbers.now oracle.now library.now) }
+    ensures { IfOk result (λ v. v ≡ judged case.now oracle.now library.now) }
 {
     let same = oracle == library;
-    let allowed = agreed(alloc, name, numbers, oracle, library)?.unwrap_or(same);
+    let allowed = agreed(alloc, case, oracle, library)?.unwrap_or(same);
     Ok(match (allowed, same) {
         (true, true) => Verdict::Same,
         (true, false) => Verdict::Excluded,

@@ -1,9 +1,19 @@
 // The modes that a case's call runs.
 ghost use Rattle.std.specs.Prelude.{◌≡◌, ◌%◌, ◌≤◌, ◌+◌, ◌*◌, ◌/◌, ◌++◌, get_or, length, IfOk};
-ghost use Rattle.verdicts.specs.Modes.{sheet_byte, sheet_word, record_word, record_modes, first_record};
+ghost use Rattle.verdicts.specs.Modes.{numbers_of, sheet_byte, sheet_word, record_word, record_modes, first_record};
 ghost use Rattle.verdicts.specs.Modes.{sheet_modes, modes_of};
 
 use std::alloc::{AllocError, Global};
+
+// The numbers of a case's line, after its name; 0 for a word that is none.
+fn numbers(alloc: Global, case: &[u8]) -> Result<Vec<u32>, AllocError>
+    ensures { IfOk result (λ v. v.items ≡ numbers_of case.now) }
+{
+    case.split(|b| *b == b' ')
+        .skip(1)
+        .map(|word| cases::number(word).unwrap_or(0))
+        .collect(alloc)
+}
 
 // A byte of a sheet.
 fn sheet_byte(numbers: &[u32], i: usize) -> u8
@@ -39,11 +49,7 @@ fn record_word(numbers: &[u32], before: usize, n: usize) -> u32
 
 // Adds the modes of a record.
 #[tactic(auto, unfolding(crate::specs::Modes::record_modes))]
-fn push_record(
-    modes: &mut Vec<bool>,
-    numbers: &[u32],
-    before: usize,
-) -> Result<(), AllocError>
+fn push_record(modes: &mut Vec<bool>, numbers: &[u32], before: usize) -> Result<(), AllocError>
     requires { before ≤ length numbers.now / 32 }
     ensures { IfOk result (λ u. modes.new.items ≡ modes.old.items ++ record_modes numbers.now before) }
 {
@@ -81,16 +87,18 @@ fn of_sheet(alloc: Global, numbers: &[u32]) -> Result<Vec<bool>, AllocError>
     Ok(modes)
 }
 
-// The modes of a call that has some, in their order: whether each leaves QPI.
+// The modes of a case's call, which has some: whether each leaves QPI.
 #[tactic(auto, unfolding(crate::specs::Modes::modes_of))]
-pub fn of(alloc: Global, name: &[u8], numbers: &[u32]) -> Result<Vec<bool>, AllocError>
-    ensures { IfOk result (λ v. v.items ≡ modes_of name.now numbers.now) }
+pub fn of(alloc: Global, case: &[u8]) -> Result<Vec<bool>, AllocError>
+    ensures { IfOk result (λ v. v.items ≡ modes_of case.now) }
 {
+    let name = cases::name(case);
+    let numbers = numbers(alloc, case)?;
     if name == b"mode".as_slice() {
         return vec![in alloc; numbers.get(3) != Some(&6); 1];
     }
     if name == b"sheet".as_slice() {
-        return of_sheet(alloc, numbers);
+        return of_sheet(alloc, &numbers);
     }
     vec![in alloc; true; 2]
 }
