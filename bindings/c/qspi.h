@@ -192,6 +192,7 @@ uint32_t qspi_flush(uint32_t limit, uint32_t *log, size_t log_len, const uint32_
 
 /*
  * Waits for the transfer to complete, then changes the work mode. `qpi`: the chip has QPI; `mode`: enum qspi_work_mode.
+ * Every mode other than QSPI_QPI_MODE leaves QPI: it clears bit 31 of trans_misc_control (038) too.
  * Gives 7; 8 for a mode above 6; 10, 11 or 1 in the wait; then 2 for QSPI_QPI_MODE on a chip without QPI, with the wait's
  * counts; else at an access: 10, 11; else 0.
  */

@@ -133,7 +133,8 @@ pub fn flush(lent: &mut Lent) -> Ended {
     made!(qspi_flush, lent)
 }
 
-/// Changes the work mode after a wait, by its number. Gives 0, 1, 2, 7, 8, 10 or 11.
+/// Changes the work mode after a wait, by its number. Every mode other than QPI leaves QPI: it clears 038 bit 31 too.
+/// Gives 0, 1, 2, 7, 8, 10 or 11.
 pub fn set_work_mode(lent: &mut Lent, qpi: bool, mode: u32) -> Ended {
     made!(qspi_set_work_mode, lent, qpi, mode)
 }

@@ -208,7 +208,8 @@ pub fn open(lent: &mut Lent, opening: &Opening) -> Opened {
     Opened { ended, sck_hz: (ended.number == Number::Done).then_some(sck_hz) }
 }
 
-/// Waits for the transfer to complete, then changes the work mode. `qpi`: the chip has QPI. Gives 0, 1, 2, 7, 10 or 11.
+/// Waits for the transfer to complete, then changes the work mode. `qpi`: the chip has QPI. Every mode other than QPI
+/// leaves QPI: it clears 038 bit 31 too. Gives 0, 1, 2, 7, 10 or 11.
 pub fn set_work_mode(lent: &mut Lent, qpi: bool, mode: WorkMode) -> Ended {
     by_number::set_work_mode(lent, qpi, mode.number())
 }

@@ -208,6 +208,16 @@ fn work_mode() {
     let (end, entries) = called(1, 10, &[0; 3], |lent| qspi::set_work_mode(lent, false, WorkMode::Quad));
     assert_eq!(end, "end 0 5 3 1 0");
     assert_eq!(values(&entries, 'w', 0x038), [1 << 29]);
+    // Where 038 answers all ones, every mode but QPI clears bit 31.
+    let over_ones = |mode| {
+        let (end, entries) = called(1, 10, &[0, u32::MAX, 0], |lent| qspi::set_work_mode(lent, true, mode));
+        assert!(end.starts_with("end 0 "));
+        values(&entries, 'w', 0x038)
+    };
+    assert_eq!(over_ones(WorkMode::Standard), [0x4FFF_FFFF]);
+    assert_eq!(over_ones(WorkMode::DualIO), [0x5FFF_FFFF]);
+    assert_eq!(over_ones(WorkMode::Quad), [0x6FFF_FFFF]);
+    assert_eq!(over_ones(WorkMode::Qpi), [0xFFFF_FFFF]);
 }
 
 #[test]

@@ -108,11 +108,19 @@ void test_flush(void) {
     REFUSED(qspi_flush(0, LOG, answers, 3, &counts), QSPI_LIMIT);
 }
 
+/* Every mode but QPI leaves QPI: where 038 answers all ones, bit 31 of the word written is clear. */
 void test_mode(void) {
+    const uint32_t ones[] = {0, UINT32_MAX, 0};
     for (uint32_t mode = QSPI_STANDARD; mode < QSPI_QPI_MODE; mode++) {
         lend();
         ENDED(qspi_set_work_mode(1, LOG, zeros, WORDS, false, mode, &counts), QSPI_DONE, 5, 3, 1, 0);
+        lend();
+        ENDED(qspi_set_work_mode(1, LOG, ones, 3, false, mode, &counts), QSPI_DONE, 5, 3, 1, 0);
+        CHECK((values(QSPI_WRITE, 0x038).together | 3u << 28) == (UINT32_MAX ^ 1u << 31));
     }
+    lend();
+    ENDED(qspi_set_work_mode(1, LOG, ones, 3, true, QSPI_QPI_MODE, &counts), QSPI_DONE, 3, 2, 1, 0);
+    CHECK(values(QSPI_WRITE, 0x038).together == UINT32_MAX);
     lend();
     ENDED(qspi_set_work_mode(1, LOG, zeros, WORDS, true, QSPI_QPI_MODE, &counts), QSPI_DONE, 3, 2, 1, 0);
     CHECK(values(QSPI_WRITE, 0x038).together == (1u << 29 | 1u << 31));
