@@ -22,8 +22,9 @@ use Rattle.model.proofs.Polls.{wait_bounded}
 use Rattle.model.proofs.Supported.{wait_supported}
 
 pub settled : Settled
-unfolding end_of fetched sent_after own rewritten last_written get_field head_of value_of answer_of answers_of receive words stored plus
-    poll_tally tally_event tally_of then finally wait_for entered answered poll run room_of ran onward advance
+unfolding end_of fetched sent_after own rewritten last_written get_field head_of value_of answer_of answers_of receive
+    words stored plus poll_tally tally_event tally_of then finally wait_for entered answered poll run room_of ran
+    onward advance
 settled =
     record {
       full = refl;

@@ -6,7 +6,7 @@ use Rattle.qspi.specs.Phases.{rx_phase}
 use Rattle.mode.specs.Leaves.{OutOfQpi, last_038}
 use Rattle.quad.specs.Quad.{quad_steps}
 
--- After a quad read or write that ends in 0 the last word written to 038 has bit 31 clear, whatever its data phase does.
+-- After a quad read or write that ends in 0 the last word written to 038 has bit 31 clear, whatever its data phase is.
 abbrev pub QuadCallsLeaveQpi : Type 0
 QuadCallsLeaveQpi = (command : List ℕ) (phase : Steps) → OutOfQpi (quad_steps command phase)
 

@@ -4,7 +4,8 @@ use borrow.Author.Tests.{ne_eqb, eq-eqb}
 use Rattle.verdicts.specs.Modes.{record_word, record_modes, modes_along}
 
 module _ (numbers : List ℕ) (on before n : ℕ) where
-  one_left : before < n → modes_along numbers on before (n - before) ≡ modes_along numbers on before (suc (n - (before + 1)))
+  one_left : before < n
+      → modes_along numbers on before (n - before) ≡ modes_along numbers on before (suc (n - (before + 1)))
   one_left h = ap (modes_along numbers on before) (omega (arith, h))
 
   -- a record that the chain does not go on with
@@ -16,7 +17,8 @@ module _ (numbers : List ℕ) (on before n : ℕ) where
   -- and the one that it does
   pub met : before < n → on ≡ before + 1
       → modes_along numbers on before (n - before)
-      ≡ record_modes numbers before ++ modes_along numbers (record_word numbers before 7) (before + 1) (n - (before + 1))
+      ≡ record_modes numbers before
+      ++ modes_along numbers (record_word numbers before 7) (before + 1) (n - (before + 1))
   unfolding modes_along
   met h e = one_left h ∙ rw (eq-eqb _ _ e) refl
 

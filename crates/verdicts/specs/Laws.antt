@@ -34,7 +34,7 @@ refuses = codes "end 7 0 0 0 0" ++ 10 ∷ []
 abbrev done : List ℕ
 done = codes "end 0 1 1 1 0" ++ 10 ∷ []
 
--- the modes Quad and Qpi, cut behind the word that they write to 038, and that word as it was read and with bit 31 clear
+-- The modes Quad and Qpi, cut behind the word that they write to 038; that word with bit 31 as it was read, and clear.
 abbrev into_quad : List ℕ
 into_quad = codes "mode 1 6 1 4 2 0 0xc0000000"
 
@@ -43,8 +43,8 @@ into_qpi = codes "mode 1 6 1 6 2 0 0xc0000000"
 
 abbrev writes : List ℕ → List ℕ
 writes word =
-    codes "r 0008 00000000" ++ 10 ∷ codes "r 0038 c0000000" ++ 10 ∷ codes "w 0038 " ++ word ++ 10 ∷ codes "end 10 3 2 1 0"
-    ++ 10 ∷ []
+    codes "r 0008 00000000" ++ 10 ∷ codes "r 0038 c0000000" ++ 10 ∷ codes "w 0038 " ++ word ++ 10
+    ∷ codes "end 10 3 2 1 0" ++ 10 ∷ []
 
 abbrev kept : List ℕ
 kept = writes (codes "e0000000")
@@ -58,8 +58,8 @@ sheet_into mode =
     codes "sheet 60 60 1 0 0 0 0 0 0 0 1 0 0 0 1 0 0 0 2 0 0 0 7 0 0 0 " ++ mode
     ++ codes " 0 0 0 0 0 0 0 0 0 0 0 0 0 0 0 0 0 0 0 0 0 0 0 0 0 0 0 0 0 0 0 0 0 192"
 
--- What these laws ask for can be had: no departure is about a flush that the Rust answers, and each row excludes a case,
--- and only where it says.
+-- What these laws ask for can be had: no departure is about a flush that the Rust answers; each row excludes a case,
+-- and nothing but what it says.
 pub record HypothesesMet : Type 0 where
   pub none : agreed asked done done ≡ None
   pub same : judged asked done done ≡ Verdict.Same

@@ -1,7 +1,7 @@
--- The answer that is due where modes leave QPI: the oracle's, but for bit 31 of the words that they write to 038, which is
--- clear (document 02, request 1).
-use Rattle.std.specs.Prelude.{Bool, false, cond, ◌&&◌, ◌||◌, List, ℕ, ◌-◌, ltb, nat_le, nat_eq, length, map, drop, get_or}
-use Rattle.std.specs.Prelude.{count_by, bytes_eq, codes}
+-- The answer that is due where modes leave QPI: the oracle's, but for bit 31 of the words that they write to 038, which
+-- is clear (document 02, request 1).
+use Rattle.std.specs.Prelude.{Bool, false, cond, ◌&&◌, ◌||◌, List, ℕ, ◌-◌, ltb, nat_le, nat_eq, length, map, drop}
+use Rattle.std.specs.Prelude.{get_or, count_by, bytes_eq, codes}
 use Rattle.std.specs.List.{starts_with, range_with_len}
 use Rattle.verdicts.specs.Modes.{mode_name, sheet_name}
 
@@ -11,8 +11,8 @@ has_modes name =
     bytes_eq name mode_name
     || (bytes_eq name (codes "quadread") || (bytes_eq name (codes "quadwrite") || bytes_eq name sheet_name))
 
--- At i begins a word that a mode writes to 038. Lines have sixteen bytes; two above a mode's word is its last poll of 008,
--- two above a phase's is its word for 034.
+-- At i begins a word that a mode writes to 038. Lines have sixteen bytes; two above a mode's is its last poll of 008,
+-- two above a phase's its word for 034.
 unfoldable pub mode_word : List ℕ → ℕ → Bool
 mode_word text i =
     nat_le 39 i

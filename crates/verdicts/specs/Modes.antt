@@ -1,4 +1,5 @@
--- The modes that a case's call runs, in their order: whether each leaves QPI (tests/oracle/README.md says what a case is).
+-- The modes that a case's call runs, in their order: whether each leaves QPI (tests/oracle/README.md says what a case
+-- is).
 use Rattle.std.specs.Prelude.{Bool, true, not, cond, List, [], ◌∷◌, ◌++◌, ℕ, zero, suc, ◌+◌, ◌*◌, ◌/◌, ◌%◌, eqb, length}
 use Rattle.std.specs.Prelude.{get_or, drop, map, unwrap_or, ◌==◌, bytes_eq, codes}
 use Rattle.std.specs.List.{slice_split}
@@ -36,8 +37,8 @@ record_modes numbers before =
     cond (eqb kind 7) (not (eqb (record_word numbers before 1) 6) ∷ [])
     (cond (eqb kind 8) (true ∷ true ∷ []) (cond (eqb kind 9) (true ∷ true ∷ []) []))
 
--- those of the records on the chain: `on` is the number of the next one, which stands after the one before it; `left`: how
--- many records are left to look at
+-- those of the records on the chain: `on` is the number of the next one, which stands after the one before it; `left`:
+-- how many records are left to look at
 unfoldable pub modes_along : List ℕ → ℕ → ℕ → ℕ → List Bool
 modes_along numbers on before zero = []
 modes_along numbers on before (suc left) =

@@ -1,5 +1,5 @@
-//! Modes that leave QPI (document 02, request 1): which words the call of a case writes to 038, read off the line alone,
-//! and the answer that is due.
+//! Modes that leave QPI (document 02, request 1): which words the call of a case writes to 038, read off the line, and
+//! the answer that is due.
 
 use crate::due::{buffer, bytes, sheet_word, some};
 use crate::numbers::{Numbers, numbers};
@@ -126,8 +126,8 @@ mod tests {
 
     #[test]
     fn only_bit_31_of_only_those() {
-        let oracle = "w 0038 ffffffff\nr 0038 ffffffff\nw 0038 a0000000\nw 0038 7fffffff\nw 0038 ffffffff\nend 0 1 1 1 0\n";
-        let due = "w 0038 ffffffff\nr 0038 ffffffff\nw 0038 20000000\nw 0038 7fffffff\nw 0038 ffffffff\nend 0 1 1 1 0\n";
+        let oracle = "w 0038 ffffffff\nr 0038 ffffffff\nw 0038 a0000000\nw 0038 7fffffff\nw 0038 ffffffff\n";
+        let due = "w 0038 ffffffff\nr 0038 ffffffff\nw 0038 20000000\nw 0038 7fffffff\nw 0038 ffffffff\n";
         assert_eq!(left(oracle, &[false, true, true]), due);
     }
 }

@@ -19,7 +19,8 @@ pub loop-before-preserved : goal.loop-before-preserved
 loop-before-preserved c =
     let numbers = c.args.numbers.now in
     let before = c.loop-before.before in
-    let after = modes_along numbers (record_word numbers before 7) (before + 1) (length numbers / 32 + 1 - (before + 1)) in
+    let left = length numbers / 32 + 1 - (before + 1) in
+    let after = modes_along numbers (record_word numbers before 7) (before + 1) left in
     rw (c.in_ok-push_record.ensures, c.record_word-on.ensures)
     (append_assoc c.loop-before.modes.items (record_modes numbers before) after
     ∙ ap (λ (bs : List Bool). c.loop-before.modes.items ++ bs)
