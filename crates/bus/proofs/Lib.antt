@@ -3,3 +3,4 @@ pub mod Entry
 pub mod Refused
 pub mod Limits
 pub mod Settled
+pub mod Leaves

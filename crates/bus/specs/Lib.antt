@@ -4,3 +4,4 @@ pub mod From
 pub mod Refused
 pub mod Limits
 pub mod Settled
+pub mod Leaves

@@ -1,17 +1,21 @@
 -- What a run leaves last at a place, from what each path of its steps does.
-use mathlib.Core.Path.{◌≡◌}
+use mathlib.Core.Path.{◌≡◌, refl}
 use mathlib.Core.Bool.{false}
 use mathlib.Core.List.{List}
 use mathlib.Core.Logic.{inl}
 use Prim.Native.Nat.{ℕ, zero, suc}
 use native.Mathlib.Omega.{arith}
-use Rattle.std.specs.Prelude.{Option}
+use lib.ListN.{drop}
+use Rattle.std.specs.Prelude.{Option, None}
 use Rattle.model.specs.Event.Event.{heard, got}
 use Rattle.model.specs.Steps.{Steps, then, finally}
 use Rattle.model.specs.Steps.End.{done, unsupported}
 use Rattle.model.specs.Steps.Steps.{end, act, ask, get, look, wait}
 use Rattle.model.specs.Run.{Outcome, run, entered}
-use Rattle.model.specs.Written.{rewritten, last_written, Left, Leaves, DoneLeaves}
+use Rattle.model.specs.State.{begun, room_of, ran, advance}
+use Rattle.model.specs.Written.{rewritten, last_written, Left, Leaves, DoneLeaves, LogLeaves, DoneCallLeaves}
+use Rattle.model.proofs.Advance.{starts}
+use Rattle.model.proofs.Called.{called_holds}
 use Rattle.model.proofs.Every.{late_never}
 use Rattle.model.proofs.Carries.{Carries, answered_carries, poll_carries}
 
@@ -81,3 +85,13 @@ module _ (place low width value : ℕ) where
 
 pub done_leaves : DoneLeaves
 done_leaves place low width value w s h l r ws m z = left place low width value w s h l r ws m z
+
+pub done_call_leaves : DoneCallLeaves
+unfolding advance ran
+done_call_leaves place low width value s h refused l ws log m =
+    let o = run s l false (room_of (begun log m)) (drop 0 ws) m in
+    called_holds (λ st. st.number ≡ 0 → LogLeaves place low width value log st) refused s l ws log m
+    (λ i z. absurd (i z))
+    (λ q.
+    rw (starts (run s l false) ws (begun log m) refl)
+    (λ z. (o.trace, omega arith, refl, done_leaves place low width value None s h l _ _ m z)))

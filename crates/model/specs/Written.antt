@@ -1,13 +1,14 @@
 -- The last word that a run writes to a place, and a field of it.
-use Rattle.std.specs.Prelude.{◌≡◌, false, cond, List, [], ◌∷◌, ℕ, eqb, Option, Some, option_map}
+use Rattle.std.specs.Prelude.{◌≡◌, false, cond, List, [], ◌∷◌, ℕ, eqb, Option, None, Some, option_map, length}
 use Rattle.model.specs.Field.{get_field}
-use Rattle.model.specs.Event.{Act, Event}
+use Rattle.model.specs.Event.{Act, Event, stored}
 use Rattle.model.specs.Event.Act.{write, send, delay}
 use Rattle.model.specs.Event.Event.{did, heard, got, polled}
 use Rattle.model.specs.Steps.{Steps}
 use Rattle.model.specs.Steps.End.{done, unsupported}
 use Rattle.model.specs.Steps.Steps.{end, act, ask, get, look, wait}
 use Rattle.model.specs.Run.{run}
+use Rattle.model.specs.State.{State, called}
 
 -- the last word after an act; `w` before it
 unfoldable pub rewritten : ℕ → Option ℕ → Act → Option ℕ
@@ -44,3 +45,16 @@ DoneLeaves =
     (place low width value : ℕ) (w : Option ℕ) (s : Steps) → Leaves place low width value w s
     → (limit room : ℕ) (answers m : List ℕ) → (run s limit false room answers m).number ≡ 0
     → Left low width value (last_written place w (run s limit false room answers m).trace)
+
+-- The entries that a call made, from the lent log on, are a trace that leaves it.
+abbrev pub LogLeaves : ℕ → ℕ → ℕ → ℕ → List ℕ → State → Type 0
+LogLeaves place low width value log st =
+    (t : List Event) × (st.entries ≡ length t) × (st.log ≡ stored log 0 t)
+    × Left low width value (last_written place None t)
+
+-- So are those of every call that is done.
+abbrev pub DoneCallLeaves : Type 0
+DoneCallLeaves =
+    (place low width value : ℕ) (s : Steps) → Leaves place low width value None s
+    → (refused limit : ℕ) (answers log m : List ℕ) → (called refused s limit answers log m).number ≡ 0
+    → LogLeaves place low width value log (called refused s limit answers log m)

@@ -50,6 +50,18 @@ fn the_oracle_takes_every_line_and_ends_in_every_way() {
     assert_eq!(ends, BTreeSet::from([0, 1, 2, 10, 11]));
 }
 
+/// Where the Rust reads 038, it reads a word with bit 31 set in at least half of the cases, whatever the call.
+#[test]
+fn bit_31_of_038_is_often_set() {
+    for name in ["mode", "quadread", "quadwrite", "transaction", "sheet"] {
+        let all = answers(&made_only("1000", name));
+        let read: Vec<&String> = all.iter().filter(|a| a.contains("\nr 0038 ")).collect();
+        let set = |a: &&&String| a.lines().any(|l| l.starts_with("r 0038 ") && l.as_bytes()[7] >= b'8');
+        let set = read.iter().filter(set).count();
+        assert!(read.len() > 300 && 2 * set >= read.len(), "{name}: {set} of {}", read.len());
+    }
+}
+
 /// Of the sheets two thirds are not refused and one third is done; each number comes up, and a log that is just full.
 #[test]
 fn sheets_are_mostly_run() {
