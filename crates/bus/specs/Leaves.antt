@@ -20,7 +20,8 @@ LeavesQpi (write_quad command bytes) = Unit {0}
 -- After such a call that ends in 0, whatever 038 answered, the last word that its log writes to 038 has bit 31 clear.
 abbrev pub CallsLeaveQpi : Type 0
 CallsLeaveQpi =
-    (call : Call) → LeavesQpi call → (limit : ℕ) (answers log m : List ℕ) → (outcome call limit answers log m).number ≡ 0
+    (call : Call) → LeavesQpi call → (limit : ℕ) (answers log m : List ℕ)
+    → (outcome call limit answers log m).number ≡ 0
     → LogLeaves 0x038 31 1 0 log (outcome call limit answers log m)
 
 -- what the law asks for can be had: mode Standard, and a quad write of nothing, where 038 answers all ones

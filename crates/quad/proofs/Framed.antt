@@ -27,11 +27,13 @@ zeros : (command : List ℕ) (k d : ℕ) → k + d ≤ 16
     ≡ (take k command ++ replicate d 0) ++ replicate (16 - length (take k command ++ replicate d 0)) 0
 zeros command k d h =
     let l : length (take k command) ≤ k = simp length-take (omega arith) in
-    let e : d + (16 - length (take k command ++ replicate d 0)) ≡ 16 - length (take k command) = simp (length-append, length-replicate) (omega arith) in
+    let e : d + (16 - length (take k command ++ replicate d 0)) ≡ 16 - length (take k command)
+    = simp (length-append, length-replicate) (omega arith) in
     rw (append_assoc, replicate-append-replicate, e) refl
 
 -- `d` zeros behind `n` bytes of the command, which were copied into sixteen zeros
-pub frames_copied : (command : List ℕ) (dummies : ℕ) {bytes : List ℕ} {n d : ℕ} → d ≡ min dummies 8 → n ≡ min (length command) (16 - d)
+pub frames_copied : (command : List ℕ) (dummies : ℕ) {bytes : List ℕ} {n d : ℕ} → d ≡ min dummies 8
+    → n ≡ min (length command) (16 - d)
     → bytes ≡ take n command ++ drop n (replicate 16 0)
     → {fits : n + d ≤ 16} → Frames command dummies (record { bytes = bytes; length = n + d; fits = fits })
 unfolding framed
@@ -47,7 +49,8 @@ frames_copied command dummies {bytes} {n} {d} e f g =
     }
 
 -- the same where the count of the bytes that were copied is their length
-pub frames : (command : List ℕ) (dummies : ℕ) {bytes : List ℕ} {n d : ℕ} → d ≡ min dummies 8 → n ≡ min (length command) (16 - d)
+pub frames : (command : List ℕ) (dummies : ℕ) {bytes : List ℕ} {n d : ℕ} → d ≡ min dummies 8
+    → n ≡ min (length command) (16 - d)
     → bytes ≡ take (length (take n command)) (take n command) ++ drop (length (take n command)) (replicate 16 0)
     → {fits : n + d ≤ 16} → Frames command dummies (record { bytes = bytes; length = n + d; fits = fits })
 frames command dummies {bytes} {n} {d} e f g =

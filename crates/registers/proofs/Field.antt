@@ -19,7 +19,8 @@ shifted_out_fits place width word = mask_lt (word / 2 ^ place) width
 -- `above` bits lie over the field: the word has above + width + place bits
 module _ (above width place : ℕ) where
   -- all ones but for the field: those above it and those below it
-  keep_blocks : 2 ^ (above + (width + place)) - 1 - (2 ^ width - 1) * 2 ^ place ≡ (2 ^ above - 1) * 2 ^ (width + place) + (2 ^ place - 1)
+  keep_blocks : 2 ^ (above + (width + place)) - 1 - (2 ^ width - 1) * 2 ^ place
+      ≡ (2 ^ above - 1) * 2 ^ (width + place) + (2 ^ place - 1)
   keep_blocks = omega (arith, ones_split above (width + place), ones_split width place)
 
   -- what lies below the field lies below its end
@@ -32,7 +33,8 @@ module _ (above width place : ℕ) where
       ≡ word / 2 ^ (width + place) * 2 ^ (width + place) + word % 2 ^ place
   masked word h =
       ap₂ bit_and (sym (split word (width + place))) keep_blocks
-      ∙ and_block (width + place) (word / 2 ^ (width + place)) (2 ^ above - 1) (word % 2 ^ (width + place)) (2 ^ place - 1)
+      ∙ and_block (width + place) (word / 2 ^ (width + place)) (2 ^ above - 1) (word % 2 ^ (width + place))
+      (2 ^ place - 1)
       (mod-lt word (pow_pos (width + place))) (below _ (ones_lt place))
       ∙ rw (and_mask _ above, and_mask, mod-eq_of_lt (shr_lt above (width + place) h), mod-mod-pow) refl
 
@@ -40,7 +42,8 @@ module _ (above width place : ℕ) where
   placed : (value : ℕ) → bit_and value (2 ^ width - 1) * 2 ^ place % 2 ^ (above + (width + place))
       ≡ 0 * 2 ^ (width + place) + value % 2 ^ width * 2 ^ place
   placed value =
-      rw (and_mask, zero-mul, zero-add) (shl_exact width place (above + (width + place)) (mod-lt value (pow_pos width)) (le-add_left _ above))
+      rw (and_mask, zero-mul, zero-add)
+      (shl_exact width place (above + (width + place)) (mod-lt value (pow_pos width)) (le-add_left _ above))
 
   -- A field is masked away, and the new value shifted in.
   pub shifted_in : (word value : ℕ) → word < 2 ^ (above + (width + place))
@@ -53,7 +56,11 @@ module _ (above width place : ℕ) where
       ap₂ bit_or (masked word h) (placed value)
       ∙ or_block (width + place) (word / 2 ^ (width + place)) 0 (word % 2 ^ place) (value % 2 ^ width * 2 ^ place)
       (below _ low) (shl_lt width place (mod-lt value (pow_pos width)))
-      ∙ omega (arith, ap (◌* 2 ^ (width + place)) (or_zero_r (word / 2 ^ (width + place))), or_shifted_r (value % 2 ^ width) place (word % 2 ^ place) low)
+      ∙ omega (
+        arith,
+        ap (◌* 2 ^ (width + place)) (or_zero_r (word / 2 ^ (width + place))),
+        or_shifted_r (value % 2 ^ width) place (word % 2 ^ place) low,
+      )
 
   -- The new value as the code casts it.
   pub cast_in : (word : ℕ) {cast value : ℕ} → cast ≡ value → word < 2 ^ (above + (width + place))

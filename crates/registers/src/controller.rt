@@ -1,7 +1,8 @@
 // The controller's registers, from qspi/register.rs and in its order.
 ghost use Rattle.std.specs.Prelude.{◌≡◌, not, cond, eqb};
 ghost use Rattle.model.specs.Field.{get_field, set_field};
-ghost use Rattle.registers.specs.Setting.{bus_mode_bits, clock_div_sel_bits, cs_ctrl_mode_bits, cs_level_bits, cs_pin_bits, ctrl_mode_bits, phase_bits, polarity_bits};
+ghost use Rattle.registers.specs.Setting.{bus_mode_bits, clock_div_sel_bits, cs_ctrl_mode_bits, cs_level_bits};
+ghost use Rattle.registers.specs.Setting.{cs_pin_bits, ctrl_mode_bits, phase_bits, polarity_bits};
 
 use super::setting::{BusMode, ClockDivSel, CsCtrlMode, CsLevel, CsPin, CtrlMode, Phase, Polarity};
 

@@ -6,7 +6,8 @@ use Rattle.mode.proofs.set_work_mode.Goals as goal
 pub returns-in_err-wait_transfer_done : goal.returns-in_err-wait_transfer_done
 unfolding work_mode_steps
 returns-in_err-wait_transfer_done c =
-    let p = err_from_is_err_and c.from_residual.result c.from_residual.ensures.1 in rw (p.1, p.2) (stop_goes _ c.in_err-wait_transfer_done.ensures)
+    let p = err_from_is_err_and c.from_residual.result c.from_residual.ensures.1 in
+    rw (p.1, p.2) (stop_goes _ c.in_err-wait_transfer_done.ensures)
 
 pub returns : goal.returns
 unfolding work_mode_steps

@@ -6,7 +6,8 @@ use Rattle.quad.proofs.quad_end.Goals as goal
 pub returns-in_err-set_work_mode : goal.returns-in_err-set_work_mode
 unfolding standard_mode
 returns-in_err-set_work_mode c =
-    let p = err_from_is_err_and c.from_residual.result c.from_residual.ensures.1 in rw (p.1, p.2) (closes_failed _ c.in_err-set_work_mode.ensures)
+    let p = err_from_is_err_and c.from_residual.result c.from_residual.ensures.1 in
+    rw (p.1, p.2) (closes_failed _ c.in_err-set_work_mode.ensures)
 
 pub returns : goal.returns
 unfolding standard_mode
