@@ -9,7 +9,15 @@ use Rattle.blocking.specs.declared.Opened.{Opened}
 
 -- the bus that was asked for
 abbrev pub bus_of : Opening → ℕ → BlockingQspi
-bus_of o limit = record { instance = o.instance; qpi = o.qpi; limit = limit; sck_hz = rate_of o; config = o.config }
+bus_of o limit =
+    record {
+      instance = o.instance;
+      qpi = o.qpi;
+      limit = limit;
+      core_hz = o.core_hz;
+      sck_hz = rate_of o;
+      config = o.config;
+    }
 
 -- its rate; 0 without it
 abbrev pub result_of : Opened → List ℕ → List ℕ → Result

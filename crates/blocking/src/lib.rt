@@ -21,6 +21,8 @@ pub struct BlockingQspi {
     pub qpi: bool,
     // Unready polls in one wait that give a timeout.
     pub limit: u32,
+    // The rate of the core, in Hz, whose cycles a delay record counts; at 0 each has none.
+    pub core_hz: u32,
     // SCK frequency produced by the divider chain.
     pub sck_hz: u32,
     pub config: QspiConfig,
@@ -43,6 +45,7 @@ impl BlockingQspi {
             instance: opening.instance,
             qpi: opening.qpi,
             limit,
+            core_hz: opening.core_hz,
             sck_hz,
             config: opening.config,
         });
@@ -173,8 +176,8 @@ impl BlockingQspi {
         memory: &mut [u8],
         words: &[u32],
     ) -> Progress
-        ensures { Transacts (Transaction·transaction words.now) self.limit answers.now log.old memory.old result log.new memory.new }
+        ensures { Transacts (Transaction·transaction self.core_hz words.now) self.limit answers.now log.old memory.old result log.new memory.new }
     {
-        chain::transaction(self.limit, log, answers, memory, words)
+        chain::transaction(self.limit, self.core_hz, log, answers, memory, words)
     }
 }

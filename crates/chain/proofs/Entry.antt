@@ -3,7 +3,7 @@ use mathlib.Core.Path.{◌≡◌, refl, sym, ap, ◌∙◌}
 use mathlib.Core.Bool.{Bool, true, false, cond}
 use mathlib.Core.List.{List}
 use mathlib.Core.Logic.{◌⊎◌, ⊎_elim}
-use Prim.Native.Nat.{ℕ, ◌<◌}
+use Prim.Native.Nat.{ℕ, ◌≤◌, ◌<◌}
 use native.Mathlib.Omega.{arith}
 use lib.Dec.{eqb}
 use lib.ListN.{length}
@@ -25,11 +25,12 @@ use Rattle.access.specs.Goes.{GoesOn}
 use Rattle.access.proofs.Makes.{error_ne0}
 use Rattle.access.proofs.Goes.{begun_runs}
 use Rattle.records.specs.declared.Fault.{Fault}
+use Rattle.records.specs.declared.rules.Rules.{Rules}
 use Rattle.records.specs.Check.{Checked, checked, fault, verdict, number_of, chain_of}
 use Rattle.records.specs.Laws.{EachFault}
 use Rattle.records.proofs.Lengths.{fault_numbers}
 use Rattle.chain.specs.Chain.{chain_steps}
-use Rattle.chain.specs.Transaction.{Request, first_fault, refusal, outcome, FaultNumber, Transacts}
+use Rattle.chain.specs.Transaction.{Request, found_in, first_fault, refusal, outcome, FaultNumber, Transacts}
 use Rattle.chain.specs.Laws.{refusable, ChainSteady, ChainAgain, ChainRefused, ChainUntouched}
 use Rattle.chain.proofs.Running.{not_fine, finds, steps_in}
 
@@ -60,10 +61,18 @@ fault_free limit found e =
     (n, sym (some_first found n) ∙ e)
 
 -- a fault's number is neither 0 nor 2
-fault_not : (n k : ℕ) → (n ≡ 6) ⊎ (n ≡ 8) ⊎ (n ≡ 9) → k < 6 → n ≡ k → ⊥
-fault_not n k f h z = ⊎_elim (λ e. omega (arith, e, h, z)) (⊎_elim (λ e. omega (arith, e, h, z)) (λ e. omega (arith, e, h, z))) f
+abbrev Numbered : ℕ → Type 0
+Numbered n = (n ≡ 6) ⊎ (n ≡ 8) ⊎ (n ≡ 9) ⊎ (n ≡ 14)
 
-found_not : (c : Checked) (k : ℕ) → EachFault (λ n. (n ≡ 6) ⊎ (n ≡ 8) ⊎ (n ≡ 9)) c → k < 6 → number_of (verdict c) ≡ k
+fault_not : (n k : ℕ) → Numbered n → k < 6 → n ≡ k → ⊥
+fault_not n k f h z =
+    ⊎_elim (other 6 (omega arith))
+    (⊎_elim (other 8 (omega arith)) (⊎_elim (other 9 (omega arith)) (other 14 (omega arith)))) f
+  where
+    other : (m : ℕ) → 6 ≤ m → n ≡ m → ⊥
+    other m i e = omega (arith, i, e, h, z)
+
+found_not : (c : Checked) (k : ℕ) → EachFault Numbered c → k < 6 → number_of (verdict c) ≡ k
     → (k ≡ 0) × (verdict c ≡ Ok tt)
 found_not (Err g) k f h e = absurd (fault_not (error_number g.error) k f h e)
 found_not (Ok rs) k f h e = (sym e, refl)
@@ -91,16 +100,16 @@ module _ {c : Request} {limit : ℕ} {m : List ℕ} where
       let runs = called_runs (steps_in c m) limit answers.now log.now m n in
       rw (q, f) (record { state = (rw l at (begun_runs b d)).state ∙ sym runs })
 
-pub never_two : (highest memory : ℕ) (ws : List ℕ) → number_of (verdict (checked highest memory ws)) ≡ 2 → ⊥
-never_two highest memory ws h =
-    let z = (found_not (checked highest memory ws) 2 (fault_numbers highest memory ws) (omega arith) h).0 in
+pub never_two : (rules : Rules) (memory : ℕ) (ws : List ℕ) → number_of (verdict (checked rules memory ws)) ≡ 2 → ⊥
+never_two rules memory ws h =
+    let z = (found_not (checked rules memory ws) 2 (fault_numbers rules memory ws) (omega arith) h).0 in
     omega (arith, z)
 
 pub chain_steady : ChainSteady
 chain_steady c memory =
-    let found = checked c.highest memory c.words in
-    limited_steady (number_of (verdict found)) (chain_steps c.rate c.qpi (chain_of found))
-    (never_two c.highest memory c.words)
+    let found = found_in c memory in
+    limited_steady (number_of (verdict found)) (chain_steps c.settings (chain_of found))
+    (never_two c.settings.rules memory c.words)
 
 pub chain_again : ChainAgain
 unfolding outcome refusal

@@ -32,6 +32,7 @@ use Rattle.transfer.specs.Transfer.{transfer_steps, part_steps, parts, in_place_
 use Rattle.windows.specs.Windows.{quad_mode, standard_mode, quad_start, quad_steps, write_window, transfer_windows}
 use Rattle.windows.specs.Windows.{read_quad_windows, write_quad_windows}
 use Rattle.records.specs.Check.{field}
+use Rattle.chain.specs.declared.request.Settings.{Settings}
 use Rattle.chain.specs.Chain.{mode_steps, record_steps}
 use Rattle.chain.specs.Transaction.{Request}
 use Rattle.chain.specs.Polls.{reached}
@@ -138,12 +139,12 @@ module _ (limit : ℕ) (answers : List ℕ) where
   turns_mode qpi None = λ st. rw (ended limit answers st) (finished st)
 
 -- a record, by its kind
-module _ (rate : ℕ) (qpi : Bool) (limit : ℕ) (answers : List ℕ) (r : List ℕ) where
+module _ (settings : Settings) (limit : ℕ) (answers : List ℕ) (r : List ℕ) where
   abbrev f : ℕ → ℕ
   f = field r
 
   abbrev Record : List Part → Type 0
-  Record ps = Turns limit answers ps (record_steps rate qpi r)
+  Record ps = Turns limit answers ps (record_steps settings r)
 
   write_turns : f 0 ≡ 1 → Record (writes (f 2) ∷ [])
   unfolding record_steps write_window
@@ -178,7 +179,7 @@ module _ (rate : ℕ) (qpi : Bool) (limit : ℕ) (answers : List ℕ) (r : List 
 
   mode_turns : f 0 ≡ 7 → Record (mode_of (work_mode_of (f 1)))
   unfolding record_steps
-  mode_turns k = rw k (turns_mode limit answers qpi (work_mode_of (f 1)))
+  mode_turns k = rw k (turns_mode limit answers settings.qpi (work_mode_of (f 1)))
 
   quad_read_turns : 0 < limit → f 0 ≡ 8 → Record (writes 16 ∷ mode ∷ reads (f 6) ∷ mode ∷ [])
   unfolding record_steps read_quad_windows
@@ -198,25 +199,25 @@ module _ (rate : ℕ) (qpi : Bool) (limit : ℕ) (answers : List ℕ) (r : List 
       (λ st. written (f 6) false _ st (window_length (f 5) (f 6) m))))
 
 behind : (c : Request) (limit : ℕ) (answers log m : List ℕ) (before : List (List ℕ)) (r : List ℕ) (ps : List Part)
-    → Turns limit answers ps (record_steps c.rate c.qpi r)
+    → Turns limit answers ps (record_steps c.settings r)
     → InTurn limit answers ps (reached c limit answers log m before)
     (reached c limit answers log m (before ++ (r ∷ [])))
 unfolding reached
 behind c limit answers log m before r ps h =
-    rw (one_more c.rate c.qpi limit answers before r (begun log m)) (h (reached c limit answers log m before))
+    rw (one_more c.settings limit answers before r (begun log m)) (h (reached c limit answers log m before))
 
 pub chain_parts : ChainParts
 chain_parts =
     record {
-      write = λ c l ws log m before r some k. behind c l ws log m before r _ (write_turns c.rate c.qpi l ws r k);
-      read_alone = λ c l ws log m before r some k. behind c l ws log m before r _ (read_turns c.rate c.qpi l ws r k);
-      transfer = λ c l ws log m before r some k. behind c l ws log m before r _ (transfer_turns c.rate c.qpi l ws r k);
-      in_place = λ c l ws log m before r some k. behind c l ws log m before r _ (in_place_turns c.rate c.qpi l ws r k);
-      delay = λ c l ws log m before r some k. behind c l ws log m before r _ (delay_turns c.rate c.qpi l ws r k);
-      flush_alone = λ c l ws log m before r some k. behind c l ws log m before r _ (flush_turns c.rate c.qpi l ws r k);
-      mode_alone = λ c l ws log m before r some k. behind c l ws log m before r _ (mode_turns c.rate c.qpi l ws r k);
+      write = λ c l ws log m before r some k. behind c l ws log m before r _ (write_turns c.settings l ws r k);
+      read_alone = λ c l ws log m before r some k. behind c l ws log m before r _ (read_turns c.settings l ws r k);
+      transfer = λ c l ws log m before r some k. behind c l ws log m before r _ (transfer_turns c.settings l ws r k);
+      in_place = λ c l ws log m before r some k. behind c l ws log m before r _ (in_place_turns c.settings l ws r k);
+      delay = λ c l ws log m before r some k. behind c l ws log m before r _ (delay_turns c.settings l ws r k);
+      flush_alone = λ c l ws log m before r some k. behind c l ws log m before r _ (flush_turns c.settings l ws r k);
+      mode_alone = λ c l ws log m before r some k. behind c l ws log m before r _ (mode_turns c.settings l ws r k);
       quad_read =
-          λ c l ws log m before r some k. behind c l ws log m before r _ (quad_read_turns c.rate c.qpi l ws r some k);
+          λ c l ws log m before r some k. behind c l ws log m before r _ (quad_read_turns c.settings l ws r some k);
       quad_write =
-          λ c l ws log m before r some k. behind c l ws log m before r _ (quad_write_turns c.rate c.qpi l ws r some k);
+          λ c l ws log m before r some k. behind c l ws log m before r _ (quad_write_turns c.settings l ws r some k);
     }

@@ -13,8 +13,9 @@ use Rattle.qspi.specs.Phases.{reset_fifos, program_transfer, start_transfer, beg
 use Rattle.mode.specs.Mode.{lines, qpi_mode, mode_changes, work_mode_steps}
 use Rattle.transfer.specs.Transfer.{transfer_steps, part_steps, parts, in_place_steps}
 use Rattle.windows.specs.Windows.{framed, quad_mode, standard_mode, quad_start, quad_steps, window, write_window, transfer_windows, read_quad_windows, write_quad_windows}
+use Rattle.records.specs.Rules.{cycles}
 use Rattle.records.specs.Check.{out_of_range, extents_fault, windows_fault, record_fault, records_in, along, checked}
-use Rattle.chain.specs.Chain.{delay_cycles, record_steps, chain_steps}
+use Rattle.chain.specs.Chain.{record_steps, chain_steps}
 use Rattle.chain.specs.Transaction.{refusal, outcome}
 use Rattle.chain.specs.Laws.{UsedFields, HypothesesMet}
 
@@ -24,7 +25,7 @@ unfolding get_field set_field head_of value_of answer_of answers_of receive rece
     begin_transfer moved moved_all paced gots
     tx_phase rx_phase lines qpi_mode mode_changes work_mode_steps framed quad_mode standard_mode quad_start quad_steps window read_quad_windows write_quad_windows out_of_range
     extents_fault windows_fault record_fault records_in along checked record_steps chain_steps refusal outcome write_window transfer_windows transfer_steps
-    in_place_steps parts part_steps delay_cycles
+    in_place_steps parts part_steps cycles
 computed = (
   record {
     ended = inl refl;

@@ -27,6 +27,7 @@ use Rattle.transfer.specs.Transfer.{transfer_steps, part_steps, parts, in_place_
 use Rattle.windows.specs.Windows.{framed, quad_mode, standard_mode, quad_start, quad_steps, window, write_window}
 use Rattle.windows.specs.Windows.{transfer_windows, read_quad_windows, write_quad_windows}
 use Rattle.records.specs.Check.{field}
+use Rattle.chain.specs.declared.request.Settings.{Settings}
 use Rattle.chain.specs.Chain.{mode_steps, record_steps, chain_steps}
 use Rattle.chain.specs.Transaction.{Request, outcome}
 use Rattle.chain.specs.Polls.{reached, ReachesOutcome, ChainsFollow, FirstRecords, ChainPolls}
@@ -37,26 +38,26 @@ reaches_outcome c limit answers log m z = called_runs _ limit answers log m z
 
 pub chains_follow : ChainsFollow
 unfolding chain_steps
-chains_follow rate qpi [] ss limit answers st =
-    ap (advance (chain_steps rate qpi ss) limit answers) (sym (ended limit answers st))
-chains_follow rate qpi (r ∷ rs) ss limit answers st =
-    advance_then _ _ limit answers st ∙ chains_follow rate qpi rs ss limit answers _
-    ∙ ap (advance (chain_steps rate qpi ss) limit answers) (sym (advance_then _ _ limit answers st))
+chains_follow settings [] ss limit answers st =
+    ap (advance (chain_steps settings ss) limit answers) (sym (ended limit answers st))
+chains_follow settings (r ∷ rs) ss limit answers st =
+    advance_then _ _ limit answers st ∙ chains_follow settings rs ss limit answers _
+    ∙ ap (advance (chain_steps settings ss) limit answers) (sym (advance_then _ _ limit answers st))
 
 pub first_records : FirstRecords
 unfolding reached
 first_records c limit answers log m before behind z e =
-    let whole = chains_follow c.rate c.qpi before behind limit answers (begun log m) in
+    let whole = chains_follow c.settings before behind limit answers (begun log m) in
     rw (reaches_outcome c limit answers log m z, e, whole)
-    (every_advance_extends (chain_steps c.rate c.qpi behind) limit answers (reached c limit answers log m before))
+    (every_advance_extends (chain_steps c.settings behind) limit answers (reached c limit answers log m before))
 
 -- one record more
-pub one_more : (rate : ℕ) (qpi : Bool) (limit : ℕ) (answers : List ℕ) (before : List (List ℕ)) (r : List ℕ) (st : State)
-    → advance (chain_steps rate qpi (before ++ (r ∷ []))) limit answers st
-    ≡ advance (record_steps rate qpi r) limit answers (advance (chain_steps rate qpi before) limit answers st)
+pub one_more : (settings : Settings) (limit : ℕ) (answers : List ℕ) (before : List (List ℕ)) (r : List ℕ) (st : State)
+    → advance (chain_steps settings (before ++ (r ∷ []))) limit answers st
+    ≡ advance (record_steps settings r) limit answers (advance (chain_steps settings before) limit answers st)
 unfolding chain_steps
-one_more rate qpi limit answers before r st =
-    chains_follow rate qpi before (r ∷ []) limit answers st ∙ advance_then _ _ limit answers _ ∙ ended limit answers _
+one_more settings limit answers before r st =
+    chains_follow settings before (r ∷ []) limit answers st ∙ advance_then _ _ limit answers _ ∙ ended limit answers _
 
 -- fewer bytes need no more waits
 fewer : (k n : ℕ) → k ≤ n → (c : Cause) → write_waits k c ≤ write_waits n c
@@ -143,49 +144,49 @@ framed_length command dummies =
     simp (length-append, length-replicate, length-take) (omega arith)
 
 -- the steps of a record, by its kind
-module _ (rate : ℕ) (qpi : Bool) (r : List ℕ) where
+module _ (settings : Settings) (r : List ℕ) where
   abbrev f : ℕ → ℕ
   f = field r
 
-  write_bounded : f 0 ≡ 1 → Bounded (write_waits (f 2)) (further_entries (f 2)) (record_steps rate qpi r)
+  write_bounded : f 0 ≡ 1 → Bounded (write_waits (f 2)) (further_entries (f 2)) (record_steps settings r)
   unfolding record_steps write_window
   write_bounded k = rw k (look_bounded (λ m. sent (f 2) true _ (window_length (f 1) (f 2) m)))
 
-  read_bounded : f 0 ≡ 2 → Bounded (read_waits (f 2)) (further_entries (f 2)) (record_steps rate qpi r)
+  read_bounded : f 0 ≡ 2 → Bounded (read_waits (f 2)) (further_entries (f 2)) (record_steps settings r)
   unfolding record_steps
   read_bounded k = rw k (phases_bounded.read (f 1) (f 2))
 
   transfer_bounded : f 0 ≡ 3
       → Bounded (λ c. write_waits (f 4) c + read_waits (f 2) c) (further_entries (f 4) + further_entries (f 2))
-      (record_steps rate qpi r)
+      (record_steps settings r)
   unfolding record_steps transfer_windows transfer_steps
   transfer_bounded k =
       rw k (look_bounded
       (λ m. then_bounded (sent (f 4) true _ (window_length (f 3) (f 4) m)) (phases_bounded.read (f 1) (f 2))))
 
   in_place_bounded : f 0 ≡ 4
-      → Bounded (part_waits ((f 2 + 255) / 256) (f 2)) (22 * ((f 2 + 255) / 256) + 2 * f 2) (record_steps rate qpi r)
+      → Bounded (part_waits ((f 2 + 255) / 256) (f 2)) (22 * ((f 2 + 255) / 256) + 2 * f 2) (record_steps settings r)
   unfolding record_steps in_place_steps
   in_place_bounded k = rw k (parts_bounded ((f 2 + 255) / 256) (f 1) (f 2))
 
-  delay_bounded : f 0 ≡ 5 → Bounded (λ c. 0) 1 (record_steps rate qpi r)
+  delay_bounded : f 0 ≡ 5 → Bounded (λ c. 0) 1 (record_steps settings r)
   unfolding record_steps
   delay_bounded k = rw k (act_bounded _)
 
-  flush_bounded : f 0 ≡ 6 → Bounded (only start 1) 0 (record_steps rate qpi r)
+  flush_bounded : f 0 ≡ 6 → Bounded (only start 1) 0 (record_steps settings r)
   unfolding record_steps
   flush_bounded k = rw k (wait_bounded start)
 
-  set_mode_bounded : f 0 ≡ 7 → Bounded (only start 1) 4 (record_steps rate qpi r)
+  set_mode_bounded : f 0 ≡ 7 → Bounded (only start 1) 4 (record_steps settings r)
   unfolding record_steps
   set_mode_bounded k = rw k (by (work_mode_of (f 1)))
     where
-      by : (o : Option WorkMode) → Bounded (only start 1) 4 (mode_steps qpi o)
-      by (Some mode) = mode_bounded qpi mode
+      by : (o : Option WorkMode) → Bounded (only start 1) 4 (mode_steps settings.qpi o)
+      by (Some mode) = mode_bounded settings.qpi mode
       by None = record { weighs = λ w l. tt }
 
   quad_read_bounded : f 0 ≡ 8
-      → Bounded (quad_waits 16 (read_waits (f 6))) (27 + 4 + (further_entries (f 6) + 4)) (record_steps rate qpi r)
+      → Bounded (quad_waits 16 (read_waits (f 6))) (27 + 4 + (further_entries (f 6) + 4)) (record_steps settings r)
   unfolding record_steps read_quad_windows
   quad_read_bounded k =
       rw k (look_bounded
@@ -193,7 +194,7 @@ module _ (rate : ℕ) (qpi : Bool) (r : List ℕ) where
 
   quad_write_bounded : f 0 ≡ 9
       → Bounded (quad_waits (f 2) (write_waits (f 6))) (further_entries (f 2) + 4 + (further_entries (f 6) + 4))
-      (record_steps rate qpi r)
+      (record_steps settings r)
   unfolding record_steps write_quad_windows
   quad_write_bounded k =
       rw k
@@ -203,38 +204,38 @@ module _ (rate : ℕ) (qpi : Bool) (r : List ℕ) where
 -- what a record of a chain adds to the polls, from the bounds of its steps
 record_adds : (c : Request) (limit : ℕ) (answers log m : List ℕ) (before : List (List ℕ)) (r : List ℕ)
     {waits : Cause → ℕ} {rest : ℕ}
-    → Bounded waits rest (record_steps c.rate c.qpi r)
+    → Bounded waits rest (record_steps c.settings r)
     → (reached c limit answers log m (before ++ (r ∷ []))).tally.polls
     ≤ (reached c limit answers log m before).tally.polls + limit * sum waits
 unfolding reached
 record_adds c limit answers log m before r h =
-    rw (one_more c.rate c.qpi limit answers before r (begun log m)) ((every_advance_adds _ _ _ h limit answers _).polls)
+    rw (one_more c.settings limit answers before r (begun log m)) ((every_advance_adds _ _ _ h limit answers _).polls)
 
 pub chain_polls : ChainPolls
 unfolding part_waits quad_waits
 chain_polls =
     record {
       write =
-          λ c l ws log m before r k. omega (arith, record_adds c l ws log m before r (write_bounded c.rate c.qpi r k));
+          λ c l ws log m before r k. omega (arith, record_adds c l ws log m before r (write_bounded c.settings r k));
       read =
-          λ c l ws log m before r k. omega (arith, record_adds c l ws log m before r (read_bounded c.rate c.qpi r k));
+          λ c l ws log m before r k. omega (arith, record_adds c l ws log m before r (read_bounded c.settings r k));
       transfer =
           λ c l ws log m before r k.
-          omega (arith, record_adds c l ws log m before r (transfer_bounded c.rate c.qpi r k));
+          omega (arith, record_adds c l ws log m before r (transfer_bounded c.settings r k));
       in_place =
           λ c l ws log m before r k.
-          omega (arith, record_adds c l ws log m before r (in_place_bounded c.rate c.qpi r k));
+          omega (arith, record_adds c l ws log m before r (in_place_bounded c.settings r k));
       delay =
-          λ c l ws log m before r k. omega (arith, record_adds c l ws log m before r (delay_bounded c.rate c.qpi r k));
+          λ c l ws log m before r k. omega (arith, record_adds c l ws log m before r (delay_bounded c.settings r k));
       flush =
-          λ c l ws log m before r k. omega (arith, record_adds c l ws log m before r (flush_bounded c.rate c.qpi r k));
+          λ c l ws log m before r k. omega (arith, record_adds c l ws log m before r (flush_bounded c.settings r k));
       mode =
           λ c l ws log m before r k.
-          omega (arith, record_adds c l ws log m before r (set_mode_bounded c.rate c.qpi r k));
+          omega (arith, record_adds c l ws log m before r (set_mode_bounded c.settings r k));
       quad_read =
           λ c l ws log m before r k.
-          omega (arith, record_adds c l ws log m before r (quad_read_bounded c.rate c.qpi r k));
+          omega (arith, record_adds c l ws log m before r (quad_read_bounded c.settings r k));
       quad_write =
           λ c l ws log m before r k.
-          omega (arith, record_adds c l ws log m before r (quad_write_bounded c.rate c.qpi r k));
+          omega (arith, record_adds c l ws log m before r (quad_write_bounded c.settings r k));
     }

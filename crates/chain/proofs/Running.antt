@@ -24,11 +24,12 @@ use Rattle.config.specs.declared.error.QspiError.TheVariants.{Chain}
 use Rattle.records.specs.declared.Fault.{Fault}
 use Rattle.records.specs.declared.record.Record.{Record}
 use Rattle.records.specs.Record.{record_of}
-use Rattle.records.proofs.KindLaws.{stated}
+use Rattle.records.proofs.KindLaws.{fitting_cycles, stated}
+use Rattle.records.specs.declared.rules.Rules.{Rules}
 use Rattle.records.specs.Check.{record_at, next_of, Checked, fault, ahead, along, records_in, checked, verdict, chain_of}
 use Rattle.records.proofs.WalkLaws.{fault_at, next_at, from, from_fault, from_last, from_on, passed, whole_empty, whole_from}
 use Rattle.chain.specs.Chain.{record_steps, chain_steps}
-use Rattle.chain.specs.Transaction.{Request}
+use Rattle.chain.specs.Transaction.{Request, found_in}
 use Rattle.chain.specs.Of.{steps_of, Fits}
 use Rattle.chain.proofs.ByKind.{stated_steps, stated_fits}
 
@@ -41,12 +42,12 @@ pub not_fine : (f : Fault) → ◌≡◌ {A = Result (Unit {0}) Fault} (Err f) (
 unfolding faults
 not_fine f e = omega (arith, ap faults e)
 
-fine_eight : (highest memory : ℕ) (ws : List ℕ) → verdict (checked highest memory ws) ≡ Ok tt → length ws % 8 ≡ 0
+fine_eight : (rules : Rules) (memory : ℕ) (ws : List ℕ) → verdict (checked rules memory ws) ≡ Ok tt → length ws % 8 ≡ 0
 unfolding checked
-fine_eight highest memory ws = by (eqb (length ws % 8) 0) refl
+fine_eight rules memory ws = by (eqb (length ws % 8) 0) refl
   where
     by : (b : Bool) → eqb (length ws % 8) 0 ≡ b
-        → verdict (cond b (along highest memory (length ws / 8) (records_in (length ws / 8) ws) 1 1)
+        → verdict (cond b (along rules memory (length ws / 8) (records_in (length ws / 8) ws) 1 1)
         (Err (fault Chain 0))) ≡ Ok tt
         → length ws % 8 ≡ 0
     by true e f = eqb-true _ _ e
@@ -58,13 +59,13 @@ chain_ahead r (Ok rs) e = refl
 
 -- what the check finds in a request on that memory, and the steps of the chain; what it finds from a record on
 abbrev pub finds : Request → List ℕ → Checked
-finds c m = checked c.highest (length m) c.words
+finds c m = found_in c (length m)
 
 abbrev pub steps_in : Request → List ℕ → Steps
-steps_in c m = chain_steps c.rate c.qpi (chain_of (finds c m))
+steps_in c m = chain_steps c.settings (chain_of (finds c m))
 
 abbrev finds_from : Request → List ℕ → ℕ → Checked
-finds_from c m own = from c.highest (length m) c.words own
+finds_from c m own = from c.settings.rules (length m) c.words own
 
 module _ (c : Request) where
   pub record Running (limit : ℕ) (answers : List ℕ) (p : Progress) (log m : List ℕ) (r : Progress) (log' m' : List ℕ) (own : ℕ) : Type 0 where
@@ -75,60 +76,63 @@ module _ (c : Request) where
     pub sound : Sound r
     pub state :
         advance (steps_in c m) limit answers (state_of p log m)
-        ≡ advance (chain_steps c.rate c.qpi (chain_of (finds_from c m own))) limit answers (state_of r log' m')
+        ≡ advance (chain_steps c.settings (chain_of (finds_from c m own))) limit answers (state_of r log' m')
 
   module _ {limit : ℕ} {answers : List ℕ} {p : Progress} {log m : List ℕ} where
     pub running_none : verdict (finds c m) ≡ Ok tt → length c.words / 8 ≡ 0 → Sound p
         → Runs (steps_in c m) limit answers p log m p log m
     unfolding chain_steps
     running_none f z few =
-        rw (whole_empty c.highest (length m) c.words (fine_eight c.highest (length m) c.words f) z)
+        rw (whole_empty c.settings.rules (length m) c.words (fine_eight c.settings.rules (length m) c.words f) z)
         (record { sound = few; state = sym (ended limit answers (state_of p log m)) })
 
     pub running_starts : verdict (finds c m) ≡ Ok tt → 1 ≤ length c.words / 8 → Sound p
         → Running limit answers p log m p log m 1
     running_starts f h few =
-        let w = whole_from c.highest (length m) c.words (fine_eight c.highest (length m) c.words f) in
+        let w = whole_from c.settings.rules (length m) c.words (fine_eight c.settings.rules (length m) c.words f) in
         let fine : verdict (finds_from c m 1) ≡ Ok tt = ap verdict (sym w) ∙ f in
         record { same = refl; one = omega arith; most = h; fine = fine; sound = few; state = rw w refl }
 
   module _ {limit : ℕ} {answers : List ℕ} {p r : Progress} {log m log' m' : List ℕ} {own : ℕ} (on : Running limit answers p log m r log' m' own) where
     -- the record has no fault
-    no_fault : fault_at c.highest (length m) c.words own ≡ Ok tt
-    no_fault = by (fault_at c.highest (length m) c.words own) refl
+    no_fault : fault_at c.settings.rules (length m) c.words own ≡ Ok tt
+    no_fault = by (fault_at c.settings.rules (length m) c.words own) refl
       where
-        by : (a : Result (Unit {0}) QspiError) → fault_at c.highest (length m) c.words own ≡ a
-            → fault_at c.highest (length m) c.words own ≡ Ok tt
+        by : (a : Result (Unit {0}) QspiError) → fault_at c.settings.rules (length m) c.words own ≡ a
+            → fault_at c.settings.rules (length m) c.words own ≡ Ok tt
         by (Ok done) e = e
         by (Err f) e = absurd (not_fine (fault f own)
-            (ap verdict (sym (from_fault c.highest (length m) c.words own f on.one on.most e)) ∙ on.fine))
+            (ap verdict (sym (from_fault c.settings.rules (length m) c.words own f on.one on.most e)) ∙ on.fine))
 
     -- what the code makes of it is a record whose windows lie in the memory
     pub stated_on : {rec : List ℕ} → rec ≡ record_at c.words own
-        → (s : Record) × (record_of rec ≡ Some s) × Fits (length m') s
+        → (s : Record) × (record_of rec ≡ Some s) × Fits c.settings.rules (length m') s
     stated_on e =
-        let s = stated c.highest (length m) (length c.words / 8) own (record_at c.words own) no_fault in
-        rw (on.same, e) (s.0, s.1, stated_fits (length m) (record_at c.words own) s.0 s.1 s.2)
+        let count = length c.words / 8 in
+        let s = stated c.settings.rules (length m) count own (record_at c.words own) no_fault in
+        let cycles = fitting_cycles c.settings.rules (length m) count own (record_at c.words own) no_fault in
+        rw (on.same, e)
+        (s.0, s.1, stated_fits c.settings.rules (length m) (record_at c.words own) s.0 s.1 cycles s.2)
 
-    module _ {rec : List ℕ} {t : Progress} {log'' m'' : List ℕ} (e : rec ≡ record_at c.words own) (d : Runs (record_steps c.rate c.qpi rec) limit answers r log' m' t log'' m'') where
+    module _ {rec : List ℕ} {t : Progress} {log'' m'' : List ℕ} (e : rec ≡ record_at c.words own) (d : Runs (record_steps c.settings rec) limit answers r log' m' t log'' m'') where
       -- once the record is run, what is left are the records behind it
       behind : (rs : List (List ℕ)) → chain_of (finds_from c m own) ≡ record_at c.words own ∷ rs
           → advance (steps_in c m) limit answers (state_of p log m)
-          ≡ advance (chain_steps c.rate c.qpi rs) limit answers (state_of t log'' m'')
+          ≡ advance (chain_steps c.settings rs) limit answers (state_of t log'' m'')
       unfolding chain_steps
       behind rs q =
-          onto _ _ limit answers (state_of r log' m') (on.state ∙ ap (λ rs. advance (chain_steps c.rate c.qpi rs) limit answers (state_of r log' m')) q)
+          onto _ _ limit answers (state_of r log' m') (on.state ∙ ap (λ rs. advance (chain_steps c.settings rs) limit answers (state_of r log' m')) q)
           (rw e at d.state)
 
       last : next_of rec ≡ 0 → chain_of (finds_from c m own) ≡ record_at c.words own ∷ []
-      last z = ap chain_of (from_last c.highest (length m) c.words own on.one on.most no_fault (rw e at z))
+      last z = ap chain_of (from_last c.settings.rules (length m) c.words own on.one on.most no_fault (rw e at z))
 
       further : (next_of rec ≡ 0 → ⊥) → (own < next_of rec) × (next_of rec ≤ length c.words / 8)
           × (verdict (finds_from c m (next_of rec)) ≡ Ok tt)
           × (chain_of (finds_from c m own) ≡ record_at c.words own ∷ chain_of (finds_from c m (next_of rec)))
       further n =
-          let f = from_on c.highest (length m) c.words own on.one on.most no_fault (λ z. n (ap next_of e ∙ z)) in
-          let rest = finds_from c m (next_at c.highest (length m) c.words own) in
+          let f = from_on c.settings.rules (length m) c.words own on.one on.most no_fault (λ z. n (ap next_of e ∙ z)) in
+          let rest = finds_from c m (next_at c.settings.rules (length m) c.words own) in
           let fine : verdict rest ≡ Ok tt = sym (ap verdict f.2 ∙ passed (record_at c.words own) rest) ∙ on.fine in
           rw e (f.0, f.1, fine, ap chain_of f.2 ∙ chain_ahead (record_at c.words own) rest fine)
 
@@ -176,18 +180,18 @@ module _ (c : Request) where
   starts_on b m f h = record { lent = lent_same b; runs = running_starts c f h b.sound }
 
   pub made_on : {b r : RegisterBlock} {m m' rec : List ℕ} {own : ℕ} → RunningOn b m r m' own → rec ≡ record_at c.words own
-      → (s : Record) × (record_of rec ≡ Some s) × Fits (length m') s
+      → (s : Record) × (record_of rec ≡ Some s) × Fits c.settings.rules (length m') s
   made_on on e = stated_on c on.runs e
 
   module _ {b r : RegisterBlock} {m m' : List ℕ} {own : ℕ} (on : RunningOn b m r m' own) {rec : List ℕ}
       (e : rec ≡ record_at c.words own)
       {s : Record} (h : record_of rec ≡ Some s) {t : RegisterBlock} {m'' : List ℕ} where
-    ran : {a : Result (Unit {0}) QspiError} → GoesOn (steps_of c s) r m' t m'' a
-        → Runs (record_steps c.rate c.qpi rec) (non_zero_u32_get b.limit) b.answers.words.now (progress_of (Ok tt) r)
+    ran : {a : Result (Unit {0}) QspiError} → GoesOn (steps_of c.settings s) r m' t m'' a
+        → Runs (record_steps c.settings rec) (non_zero_u32_get b.limit) b.answers.words.now (progress_of (Ok tt) r)
         r.log.now m' (progress_of a t) t.log.now m''
-    ran d = rw (stated_steps c rec s h) (rw (on.lent.answers, on.lent.limit) at d.runs)
+    ran d = rw (stated_steps c.settings rec s h) (rw (on.lent.answers, on.lent.limit) at d.runs)
 
-    pub stops_on : {a : QspiError} → GoesOn (steps_of c s) r m' t m'' (Err a)
+    pub stops_on : {a : QspiError} → GoesOn (steps_of c.settings s) r m' t m'' (Err a)
         → GoesOn (steps_in c m) b m t m'' (Err a)
     stops_on {a} d =
         record {
@@ -195,7 +199,7 @@ module _ (c : Request) where
           runs = running_stops c on.runs e (ran d) (error_ne0 a);
         }
 
-    pub ends_on : GoesOn (steps_of c s) r m' t m'' (Ok tt) → next_of rec ≡ 0
+    pub ends_on : GoesOn (steps_of c.settings s) r m' t m'' (Ok tt) → next_of rec ≡ 0
         → GoesOn (steps_in c m) b m t m'' (Ok tt)
     ends_on d z =
         record {
@@ -203,11 +207,11 @@ module _ (c : Request) where
           runs = running_ends c on.runs e (ran d) z;
         }
 
-    pub less_on : GoesOn (steps_of c s) r m' t m'' (Ok tt) → (next_of rec ≡ 0 → ⊥)
+    pub less_on : GoesOn (steps_of c.settings s) r m' t m'' (Ok tt) → (next_of rec ≡ 0 → ⊥)
         → length c.words / 8 - next_of rec < length c.words / 8 - own
     less_on d n = running_less c on.runs e (ran d) n
 
-    pub goes_further : GoesOn (steps_of c s) r m' t m'' (Ok tt) → (next_of rec ≡ 0 → ⊥) → length m'' ≡ length m'
+    pub goes_further : GoesOn (steps_of c.settings s) r m' t m'' (Ok tt) → (next_of rec ≡ 0 → ⊥) → length m'' ≡ length m'
         → RunningOn b m t m'' (next_of rec)
     goes_further d n l =
         record {

@@ -1,34 +1,35 @@
 -- The records of a chain one after the other, and demand 3's bound on polls for each, whatever came before and however
 -- it ends.
-use Rattle.std.specs.Prelude.{◌≡◌, List, [], ◌∷◌, ◌++◌, ℕ, ◌+◌, ◌*◌, ◌/◌, ◌≤◌, Bool, length}
+use Rattle.std.specs.Prelude.{◌≡◌, List, [], ◌∷◌, ◌++◌, ℕ, ◌+◌, ◌*◌, ◌/◌, ◌≤◌, length}
 use Rattle.model.specs.State.{State, begun, advance}
 use Rattle.model.specs.More.{Extends}
-use Rattle.records.specs.Check.{field, checked, chain_of}
+use Rattle.records.specs.Check.{field, chain_of}
+use Rattle.chain.specs.declared.request.Settings.{Settings}
 use Rattle.chain.specs.Chain.{chain_steps}
-use Rattle.chain.specs.Transaction.{Request, refusal, outcome}
+use Rattle.chain.specs.Transaction.{Request, found_in, refusal, outcome}
 
 -- the state that the first records of a chain leave
 unfoldable pub reached : Request → ℕ → List ℕ → List ℕ → List ℕ → List (List ℕ) → State
-reached c limit answers log m rs = advance (chain_steps c.rate c.qpi rs) limit answers (begun log m)
+reached c limit answers log m rs = advance (chain_steps c.settings rs) limit answers (begun log m)
 
 -- all of its records leave the outcome
 abbrev pub ReachesOutcome : Type 0
 ReachesOutcome =
-    (c : Request) (limit : ℕ) (answers log m : List ℕ) → let found = checked c.highest (length m) c.words in
+    (c : Request) (limit : ℕ) (answers log m : List ℕ) → let found = found_in c (length m) in
     refusal limit found ≡ 0 → outcome c limit answers log m ≡ reached c limit answers log m (chain_of found)
 
 -- Records behind others run from the state that those leave.
 abbrev pub ChainsFollow : Type 0
 ChainsFollow =
-    (rate : ℕ) (qpi : Bool) (rs ss : List (List ℕ)) (limit : ℕ) (answers : List ℕ) (st : State)
-    → advance (chain_steps rate qpi (rs ++ ss)) limit answers st
-    ≡ advance (chain_steps rate qpi ss) limit answers (advance (chain_steps rate qpi rs) limit answers st)
+    (settings : Settings) (rs ss : List (List ℕ)) (limit : ℕ) (answers : List ℕ) (st : State)
+    → advance (chain_steps settings (rs ++ ss)) limit answers st
+    ≡ advance (chain_steps settings ss) limit answers (advance (chain_steps settings rs) limit answers st)
 
 -- So that state is one of the same run: the outcome extends it.
 abbrev pub FirstRecords : Type 0
 FirstRecords =
     (c : Request) (limit : ℕ) (answers log m : List ℕ) (before behind : List (List ℕ))
-    → let found = checked c.highest (length m) c.words in
+    → let found = found_in c (length m) in
     refusal limit found ≡ 0 → chain_of found ≡ before ++ behind
     → Extends (reached c limit answers log m before) (outcome c limit answers log m)
 

@@ -3,22 +3,22 @@
 
 ghost use Rattle.std.specs.Prelude.{◌≡◌, Ok, length};
 ghost use Rattle.std.specs.Int.NonZero.{non_zero_u32_get};
-ghost use Rattle.records.specs.Check.{checked, verdict, chain_of};
+ghost use Rattle.records.specs.Check.{verdict, chain_of};
 ghost use Rattle.access.specs.Goes.{GoesOn};
 ghost use Rattle.chain.specs.Chain.{chain_steps};
-ghost use Rattle.chain.specs.Transaction.{first_fault, Checks, Transacts};
+ghost use Rattle.chain.specs.Transaction.{found_in, first_fault, Checks, Transacts};
 ghost use Rattle.chain.specs.Transaction.{transaction as Transaction·transaction};
-ghost use Rattle.chain.specs.Of.{request_of, found_in};
+ghost use Rattle.chain.specs.Of.{request_of};
 
 use access::{Progress, RegisterBlock};
 use config::QspiError;
-use records::{Fault, Record};
+use records::{Fault, Record, Rules};
 use std::num::NonZeroU32;
 
 pub mod record;
 pub mod request;
 
-pub use request::Request;
+pub use request::{Request, Settings};
 
 // Goes along a chain in which no fault was found, and runs each record.
 fn run_chain(
@@ -26,8 +26,8 @@ fn run_chain(
     memory: &mut [u8],
     request: Request<'_>,
 ) -> Result<(), QspiError>
-    requires { verdict (found_in request (length memory.old)) ≡ Ok tt }
-    ensures { GoesOn (chain_steps request.entry.rate request.entry.qpi (chain_of (found_in request.entry (length memory.old)))) block.old memory.old block.new memory.new result }
+    requires { verdict (found_in (request_of request) (length memory.old)) ≡ Ok tt }
+    ensures { GoesOn (chain_steps request.entry.settings (chain_of (found_in (request_of request.entry) (length memory.old)))) block.old memory.old block.new memory.new result }
 {
     let words = request.words;
     if words.len() / 8 == 0 {
@@ -37,7 +37,7 @@ fn run_chain(
     loop {
         let r = records::record_at(words, own);
         let record = Record::of(r).unwrap();
-        record::run_record(block, memory, request, record)?;
+        record::run_record(block, memory, request.settings, record)?;
         let next = r[7] as usize;
         if next == 0 {
             return Ok(());
@@ -48,7 +48,7 @@ fn run_chain(
 
 // The check of a chain, which runs nothing: 7, at no record, then the first fault along the chain; else the limit.
 pub fn check(limit: u32, request: Request<'_>, memory: usize) -> Result<NonZeroU32, Fault>
-    ensures { Checks limit (first_fault limit (found_in request.entry memory)) result }
+    ensures { Checks limit (first_fault limit (found_in (request_of request.entry) memory)) result }
 {
     let Some(limit) = NonZeroU32::new(limit) else {
         return Err(Fault {
@@ -56,7 +56,7 @@ pub fn check(limit: u32, request: Request<'_>, memory: usize) -> Result<NonZeroU
             record: 0,
         });
     };
-    match records::check(request.words, request.highest, memory) {
+    match records::check(request.words, request.settings.rules, memory) {
         Ok(()) => Ok(limit),
         Err(fault) => Err(fault),
     }
@@ -70,7 +70,7 @@ pub fn run(
     memory: &mut [u8],
     request: Request<'_>,
 ) -> Progress
-    requires { first_fault (non_zero_u32_get limit) (found_in request (length memory.old)) ≡ Ok tt }
+    requires { first_fault (non_zero_u32_get limit) (found_in (request_of request) (length memory.old)) ≡ Ok tt }
     ensures { Transacts (request_of request.entry) (non_zero_u32_get limit) answers.now log.old memory.old result log.new memory.new }
 {
     let mut block = RegisterBlock::new(limit, log, answers);
@@ -94,21 +94,21 @@ pub fn transact(
     }
 }
 
-// Operations on the lent memory, one after the other: a chain of kinds 1 to 5.
+// Operations on the lent memory, one after the other: a chain of kinds 1 to 5, whose delays go by the core rate.
 pub fn transaction(
     limit: u32,
+    core_hz: u32,
     log: &mut [u32],
     answers: &[u32],
     memory: &mut [u8],
     words: &[u32],
 ) -> Progress
-    ensures { Transacts (Transaction·transaction words.now) limit answers.now log.old memory.old result log.new memory.new }
+    ensures { Transacts (Transaction·transaction core_hz words.now) limit answers.now log.old memory.old result log.new memory.new }
 {
-    let request = Request {
+    let settings = Settings {
         rate: 0,
         qpi: false,
-        highest: 5,
-        words,
+        rules: Rules::Transaction { core_hz },
     };
-    transact(limit, log, answers, memory, request)
+    transact(limit, log, answers, memory, Request { settings, words })
 }

@@ -1,21 +1,13 @@
 // One record, run on the lent memory.
 ghost use Rattle.std.specs.Prelude.{◌≡◌, length};
 ghost use Rattle.access.specs.Goes.{GoesOn};
-ghost use Rattle.chain.specs.Chain.{delay_cycles};
-ghost use Rattle.chain.specs.Of.{request_of, steps_of, Fits};
+ghost use Rattle.chain.specs.Of.{steps_of, Fits};
 
-use super::request::Request;
+use super::request::Settings;
 use access::{Act, RegisterBlock};
 use config::QspiError;
 use records::{Extent, Record};
 use windows::Span;
-
-// The cycles of a delay in nanoseconds.
-pub fn delay_cycles(ns: u32) -> u32
-    ensures { result ≡ delay_cycles ns }
-{
-    ns / 2
-}
 
 fn span(w: Extent) -> Span
     ensures { result ≡ record { start = w.start; len = w.size } }
@@ -26,15 +18,15 @@ fn span(w: Extent) -> Span
     }
 }
 
-// Runs a record of the request, in which no fault was found.
+// Runs a record in which no fault was found.
 pub fn run_record(
     block: &mut RegisterBlock<'_>,
     memory: &mut [u8],
-    request: Request<'_>,
+    settings: Settings,
     r: Record,
 ) -> Result<(), QspiError>
-    requires { Fits (length memory.old) r }
-    ensures { GoesOn (steps_of (request_of request.entry) r) block.old memory.old block.new memory.new result }
+    requires { Fits settings.rules (length memory.old) r }
+    ensures { GoesOn (steps_of settings r) block.old memory.old block.new memory.new result }
 {
     match r {
         Record::Write(w) => windows::write(block, memory, span(w)),
@@ -43,9 +35,9 @@ pub fn run_record(
             windows::transfer(block, memory, span(read), span(write))
         }
         Record::TransferInPlace(w) => windows::transfer_in_place(block, memory, span(w)),
-        Record::Delay { ns } => block.perform(Act::Delay(delay_cycles(ns))),
+        Record::Delay { ns } => block.perform(Act::Delay(settings.rules.cycles(ns).unwrap())),
         Record::Flush => waits::wait_transfer_done(block),
-        Record::Mode(mode) => mode::set_work_mode(block, request.qpi, mode),
+        Record::Mode(mode) => mode::set_work_mode(block, settings.qpi, mode),
         Record::QuadRead {
             command,
             tclqv,
@@ -54,7 +46,7 @@ pub fn run_record(
         } => windows::read_quad(
             block,
             memory,
-            request.rate,
+            settings.rate,
             span(command),
             tclqv,
             margin,

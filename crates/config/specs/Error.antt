@@ -1,10 +1,11 @@
--- Document 01's number and words of each error, and the number by which a call ends ("How a call ends").
-use Rattle.std.specs.Prelude.{ℕ, Bool, ◌&&◌, ◌||◌, ◌==◌, nat_le, List, Result, Ok, Err, codes}
+-- The number and words of each error, from document 01 ("How a call ends") and from 14 on document 02, and the number by
+-- which a call ends.
+use Rattle.std.specs.Prelude.{ℕ, Bool, ◌&&◌, ◌||◌, nat_le, List, Result, Ok, Err, codes}
 use Rattle.config.specs.declared.error.QspiError.{QspiError}
 use Rattle.config.specs.declared.error.QspiError.TheVariants.{Timeout, Unsupported, SpiMode, Instance, Qpi, Length}
-use Rattle.config.specs.declared.error.QspiError.TheVariants.{Limit, Chain, Window, Log, Answers, Divider, Sheet}
+use Rattle.config.specs.declared.error.QspiError.TheVariants.{Limit, Chain, Window, Log, Answers, Divider, Sheet, Delay}
 
--- 1 to 13
+-- 1 to 13, and 14 of request 2
 abbrev pub error_number : QspiError → ℕ
 error_number Timeout = 1
 error_number Unsupported = 2
@@ -19,6 +20,7 @@ error_number Log = 10
 error_number Answers = 11
 error_number Divider = 12
 error_number Sheet = 13
+error_number Delay = 14
 
 abbrev pub error_text : QspiError → List ℕ
 error_text Timeout = codes "timeout"
@@ -34,12 +36,13 @@ error_text Log = codes "log used up"
 error_text Answers = codes "answers used up"
 error_text Divider = codes "divider"
 error_text Sheet = codes "sheet"
+error_text Delay = codes "core rate 0 at opening, or a delay above FFFFFFFF hex cycles"
 
 -- 0 done, else the error's number
 abbrev pub ended_number : {T : Type 0} → Result T QspiError → ℕ
 ended_number (Ok x) = 0
 ended_number (Err error) = error_number error
 
--- the numbers of what touches no register and no lent byte: 3 to 9, 12 and 13 (demand 1)
+-- the numbers of what touches no register and no lent byte: 3 to 9, 12 and 13 (demand 1), and 14 of request 2
 abbrev pub touches_nothing : ℕ → Bool
-touches_nothing n = (nat_le 3 n && nat_le n 9) || (n == 12 || n == 13)
+touches_nothing n = (nat_le 3 n && nat_le n 9) || (nat_le 12 n && nat_le n 14)

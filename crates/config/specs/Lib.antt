@@ -1,3 +1,4 @@
 pub mod Config
 pub mod Error
+pub mod Laws
 pub mod Spi

@@ -1,10 +1,10 @@
-// Bus errors: those of error.rs, and what else document 01 refuses ("How a call ends").
+// Bus errors: those of error.rs, and what else documents 01 ("How a call ends") and 02 refuse.
 ghost use Rattle.std.specs.Prelude.{◌≡◌, Some};
 ghost use Rattle.config.specs.Error.{error_number, error_text, ended_number, touches_nothing};
 
 use std::fmt;
 
-// Each has document 01's number.
+// Each has its number of document 01 or 02.
 #[derive(Clone, Copy, Debug, PartialEq, Eq)]
 pub enum QspiError {
     // Timeout waiting for hardware.
@@ -33,10 +33,12 @@ pub enum QspiError {
     Divider = 12,
     // A sheet too long or too short, or its QPI word.
     Sheet = 13,
+    // Core rate 0 at opening, or a delay of more cycles than 32 bits hold.
+    Delay = 14,
 }
 
 impl QspiError {
-    // Document 01's number of the error.
+    // The number of the error.
     pub fn number(self) -> u32
         ensures { result ≡ error_number self }
     {
@@ -70,6 +72,7 @@ impl fmt::Display for QspiError {
             QspiError::Answers => "answers used up",
             QspiError::Divider => "divider",
             QspiError::Sheet => "sheet",
+            QspiError::Delay => "core rate 0 at opening, or a delay above FFFFFFFF hex cycles",
         })
     }
 }
@@ -88,5 +91,5 @@ pub fn number_of(ended: Result<(), QspiError>) -> u32
 pub fn touches_nothing(number: u32) -> bool
     ensures { result ≡ touches_nothing number }
 {
-    matches!(number, 3..=9 | 12 | 13)
+    matches!(number, 3..=9 | 12..=14)
 }

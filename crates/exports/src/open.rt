@@ -10,7 +10,8 @@ use config_numbers::ConfigNumbers;
 use counts::{Counts, tell};
 use opening::{ClockTree, Opening};
 
-// Opens the bus of an instance and writes its rate, which is 0 unless the number is 0. `qpi`: the chip has QPI; `work_mode`: its number.
+// Opens the bus of an instance and writes its rate, which is 0 unless the number is 0. `qpi`: the chip has QPI;
+// `core_hz`: the core rate, for the delays of transactions; `work_mode`: its number.
 pub fn qspi_open(
     limit: u32,
     log: &mut [u32],
@@ -19,6 +20,7 @@ pub fn qspi_open(
     qpi: bool,
     pll_hz: u32,
     osc_hz: u32,
+    core_hz: u32,
     freq: u32,
     idle_high: bool,
     second_transition: bool,
@@ -33,7 +35,7 @@ pub fn qspi_open(
     sck_hz: &mut u32,
     counts: &mut Counts,
 ) -> u32
-    ensures { GivesOpening (opening_outcome (opening_with instance qpi (record { pll_fra0 = pll_hz; osc_24m = osc_hz }) (config_of (work_mode_of work_mode) freq (mode_of idle_high second_transition) (ctrl_mode_of master) bit_mode lsb_first (cs_of cs cs_idle_high cs_high cs_1))) limit answers.now log.old) log.new sck_hz.new result counts.new }
+    ensures { GivesOpening (opening_outcome (opening_with instance qpi core_hz (record { pll_fra0 = pll_hz; osc_24m = osc_hz }) (config_of (work_mode_of work_mode) freq (mode_of idle_high second_transition) (ctrl_mode_of master) bit_mode lsb_first (cs_of cs cs_idle_high cs_high cs_1))) limit answers.now log.old) log.new sck_hz.new result counts.new }
 {
     let numbers = ConfigNumbers {
         freq,
@@ -55,6 +57,7 @@ pub fn qspi_open(
     let found = numbers.config().map(|config| Opening {
         instance,
         qpi,
+        core_hz,
         config,
         clock_tree,
     });

@@ -8,7 +8,8 @@ ghost use Rattle.std.specs.Prelude.{ℕ};
 
 use counts::Counts;
 
-// Opens the bus of an instance and writes its rate, which is 0 unless the number is 0. `qpi`: the chip has QPI; `work_mode`: its number.
+// Opens the bus of an instance and writes its rate, which is 0 unless the number is 0. `qpi`: the chip has QPI;
+// `core_hz`: the core rate, for the delays of transactions; `work_mode`: its number.
 #[unsafe(no_mangle)]
 pub extern "C" fn qspi_open(
     limit: u32,
@@ -18,6 +19,7 @@ pub extern "C" fn qspi_open(
     qpi: bool,
     pll_hz: u32,
     osc_hz: u32,
+    core_hz: u32,
     freq: u32,
     idle_high: bool,
     second_transition: bool,
@@ -32,7 +34,7 @@ pub extern "C" fn qspi_open(
     sck_hz: &mut u32,
     counts: &mut Counts,
 ) -> u32
-    ensures { GivesOpening (opening_outcome (opening_with instance qpi (record { pll_fra0 = pll_hz; osc_24m = osc_hz }) (config_of (work_mode_of work_mode) freq (mode_of idle_high second_transition) (ctrl_mode_of master) bit_mode lsb_first (cs_of cs cs_idle_high cs_high cs_1))) limit answers.now log.old) log.new sck_hz.new result counts.new }
+    ensures { GivesOpening (opening_outcome (opening_with instance qpi core_hz (record { pll_fra0 = pll_hz; osc_24m = osc_hz }) (config_of (work_mode_of work_mode) freq (mode_of idle_high second_transition) (ctrl_mode_of master) bit_mode lsb_first (cs_of cs cs_idle_high cs_high cs_1))) limit answers.now log.old) log.new sck_hz.new result counts.new }
 {
     exports::open::qspi_open(
         limit,
@@ -42,6 +44,7 @@ pub extern "C" fn qspi_open(
         qpi,
         pll_hz,
         osc_hz,
+        core_hz,
         freq,
         idle_high,
         second_transition,

@@ -81,9 +81,9 @@ limit_accepted limit other z = by (eqb limit 0) refl z
 pub limit_passed : (limit other : ℕ) → (limit ≡ 0 → ⊥) → limit_first limit other ≡ other
 limit_passed limit other i = rw (ne_eqb limit 0 i) refl
 
-pub limit_never : (limit other n : ℕ) → n < 7 → (other ≡ n → ⊥) → limit_first limit other ≡ n → ⊥
+pub limit_never : (limit other n : ℕ) → (n ≡ 7 → ⊥) → (other ≡ n → ⊥) → limit_first limit other ≡ n → ⊥
 limit_never limit other n l i h = by (eqb limit 0) h
   where
     by : (b : Bool) → cond b 7 other ≡ n → ⊥
-    by true h = omega (arith, h, l)
+    by true h = l (sym h)
     by false h = i h

@@ -12,7 +12,7 @@ pub limited_steady : LimitedSteady
 limited_steady other s two =
     record {
       accepted = λ l l' some z. limit_passed l' other (λ e. omega (arith, e)) ∙ (limit_accepted l other z).1;
-      never_2 = λ l. limit_never l other 2 (omega arith) two;
+      never_2 = λ l. limit_never l other 2 (λ e. omega (arith, e)) two;
     }
 
 pub ended_lifts : EndedLifts

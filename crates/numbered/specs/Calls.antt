@@ -18,9 +18,10 @@ mode_outcome (Some work) qpi limit answers log m = outcome (Call.set_work_mode q
 mode_outcome None qpi limit answers log m = with_number (no_mode limit) (begun log m)
 
 -- what is opened with a configuration that was found
-abbrev pub opening_with : ℕ → Bool → ClockTree → Option QspiConfig → Option Opening
-opening_with instance qpi tree =
-    option_map (λ config. record { instance = instance; qpi = qpi; config = config; clock_tree = tree })
+abbrev pub opening_with : ℕ → Bool → ℕ → ClockTree → Option QspiConfig → Option Opening
+opening_with instance qpi core_hz tree =
+    option_map
+    (λ config. record { instance = instance; qpi = qpi; core_hz = core_hz; config = config; clock_tree = tree })
 
 -- Where none was found 8, as for a field out of range, before anything else is tested; else the opening.
 abbrev pub opening_outcome : Option Opening → ℕ → List ℕ → List ℕ → List ℕ → Result

@@ -1,6 +1,6 @@
 -- An opening refused, and an opening and a release run from no entry and the first answer on.
 use mathlib.Core.Path.{◌≡◌, refl, sym, ◌∙◌}
-use mathlib.Core.Bool.{Bool, true, false, cond, not, ◌&&◌}
+use mathlib.Core.Bool.{Bool, true, false, cond, not}
 use mathlib.Core.List.{List}
 use Prim.Native.Nat.{ℕ, ◌≤◌, ◌<◌}
 use native.Mathlib.Omega.{arith}
@@ -14,7 +14,6 @@ use Rattle.model.specs.State as state
 use Rattle.model.specs.State.{advance}
 use Rattle.model.proofs.Called.{called_refused, called_runs}
 use Rattle.config.specs.Spi.{supported}
-use Rattle.config.specs.Config.{is_qpi}
 use Rattle.clock.specs.declared.Choice.{Choice}
 use Rattle.clock.specs.Rank.{choice}
 use Rattle.clock.specs.Answer.{sck}
@@ -37,12 +36,12 @@ use Rattle.opening.specs.Call.{no_polls, opened_with, Opens, Releases}
 pub accepted : (o : Opening) (limit : ℕ) {n : ℕ} → n ≡ opening_refusal o limit → n ≡ 0 → o.instance < 4
 unfolding opening_refusal
 accepted o limit r z =
-    by (not (supported o.config.mode)) (ltb 3 o.instance) (is_qpi o.config.work_mode && not o.qpi) (eqb limit 0) refl (sym r ∙ z)
+    by (not (supported o.config.mode)) (ltb 3 o.instance) _ refl (sym r ∙ z)
   where
-    by : (a b c d : Bool) → ltb 3 o.instance ≡ b → cond {A = ℕ} a 3 (cond b 4 (cond c 5 (cond d 7 0))) ≡ 0 → o.instance < 4
-    by true b c d e h = absurd (omega (arith, h))
-    by false true c d e h = absurd (omega (arith, h))
-    by false false c d e h = let i : o.instance ≤ 3 = ltb-false _ _ e in omega arith
+    by : (a b : Bool) (rest : ℕ) → ltb 3 o.instance ≡ b → cond {A = ℕ} a 3 (cond b 4 rest) ≡ 0 → o.instance < 4
+    by true b rest e h = absurd (omega (arith, h))
+    by false true rest e h = absurd (omega (arith, h))
+    by false false rest e h = let i : o.instance ≤ 3 = ltb-false _ _ e in omega arith
 
 -- The steps and the rate of the clock that the code has chosen.
 module _ (o : Opening) {target hz : ℕ} {c : Choice} (t : target ≡ clamped o.config.freq) (e : c ≡ choice o.clock_tree.pll_fra0 target)

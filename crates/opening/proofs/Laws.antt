@@ -1,49 +1,41 @@
 -- Demand 3 for an opening and a release, no polls, and what a refusal leaves.
 use mathlib.Core.Path.{◌≡◌, refl, ap}
-use mathlib.Core.Bool.{Bool, true, false, cond, not, ◌&&◌}
+use mathlib.Core.Bool.{Bool, true, false, cond}
 use mathlib.Core.Logic.{inl}
-use Prim.Native.Nat.{ℕ}
+use Prim.Native.Nat.{ℕ, ◌<◌}
 use native.Mathlib.Omega.{arith}
-use lib.Dec.{eqb, ltb}
 use borrow.Author.Tests.{ne_eqb}
 use Rattle.model.proofs.Called.{called_refused, others_touch_nothing}
 use Rattle.model.proofs.Refusable.{another_limit_called}
-use Rattle.config.specs.Spi.{supported}
-use Rattle.config.specs.Config.{is_qpi}
 use Rattle.opening.specs.Steps.{release_steps}
 use Rattle.opening.specs.Call.{opening_refusal, steps_of, rate_of, with_rate, opens, releases}
 use Rattle.opening.specs.Laws.{opening_refusable, release_refusable, OpeningSteady, ReleaseSteady, OpeningAgain}
 use Rattle.opening.specs.Laws.{ReleaseAgain, OpeningPolls, ReleasePolls, OpeningRefused, OpeningUntouched}
 use Rattle.opening.proofs.Polls.{opening_waits, release_waits, called_polls}
 
--- the first of four tests that holds
-abbrev first : Bool → Bool → Bool → Bool → ℕ
-first a b c d = cond a 3 (cond b 4 (cond c 5 (cond d 7 0)))
+-- A test in front of others gives a number that is neither 0 nor 2: so what is 2, or passed, is so of those behind it.
+module _ (n : ℕ) (more : 2 < n) where
+  not_two : (b : Bool) {rest : ℕ} → (rest ≡ 2 → ⊥) → cond b n rest ≡ 2 → ⊥
+  not_two true never h = omega (arith, more, h)
+  not_two false never h = never h
 
--- no refusal is 2
-never_two : (a b c d : Bool) → first a b c d ≡ 2 → ⊥
-never_two true b c d h = omega (arith, h)
-never_two false true c d h = omega (arith, h)
-never_two false false true d h = omega (arith, h)
-never_two false false false true h = omega (arith, h)
-never_two false false false false h = omega (arith, h)
+  passed : (b : Bool) {rest rest' : ℕ} → (rest ≡ 0 → rest' ≡ 0) → cond b n rest ≡ 0 → cond b n rest' ≡ 0
+  passed true on h = h
+  passed false on h = on h
 
--- without the last test what was not refused is not
-no_last : (a b c d : Bool) → first a b c d ≡ 0 → first a b c false ≡ 0
-no_last true b c d h = h
-no_last false true c d h = h
-no_last false false true d h = h
-no_last false false false d h = refl
+none_not_two : ◌≡◌ {A = ℕ} 0 2 → ⊥
+none_not_two h = omega (arith, h)
 
 pub opening_steady : OpeningSteady
 unfolding opening_refusal
 opening_steady o =
-    let mode = not (supported o.config.mode) in
-    let instance = ltb 3 o.instance in
-    let work = is_qpi o.config.work_mode && not o.qpi in
     record {
-      accepted = λ l l' some h. rw (ne_eqb l' 0 (λ z. omega (arith, z))) (no_last mode instance work (eqb l 0) h);
-      never_2 = λ l. never_two mode instance work (eqb l 0);
+      accepted = λ l l' some. rw (ne_eqb l' 0 (λ z. omega (arith, z)))
+          (passed 3 (omega arith) _
+          (passed 4 (omega arith) _ (passed 5 (omega arith) _ (passed 14 (omega arith) _ (λ h. refl)))));
+      never_2 = λ l. not_two 3 (omega arith) _
+          (not_two 4 (omega arith) _
+          (not_two 5 (omega arith) _ (not_two 14 (omega arith) _ (not_two 7 (omega arith) _ none_not_two))));
     }
 
 pub release_steady : ReleaseSteady

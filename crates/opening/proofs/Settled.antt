@@ -34,6 +34,7 @@ settled =
       all_wrong = refl;
       instance_wrong = refl;
       qpi_wrong = refl;
+      core_wrong = refl;
       limit_wrong = refl;
       release = refl;
       release_above = refl;

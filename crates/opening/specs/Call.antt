@@ -1,5 +1,5 @@
 -- An opening and a release as a user calls them: what is refused, and what is given for every input
--- (document 01, "How a call ends").
+-- (document 01, "How a call ends"; 14 by request 2).
 use Rattle.std.specs.Prelude.{◌≡◌, cond, not, ◌&&◌, List, ℕ, eqb, ltb, Some, None, unwrap_or}
 use Rattle.model.specs.Steps.{Steps}
 use Rattle.model.specs.State.{State, called}
@@ -16,11 +16,14 @@ use Rattle.opening.specs.declared.Opening.{Opening}
 use Rattle.opening.specs.declared.Opened.{Opened}
 use Rattle.opening.specs.Steps.{opening_steps, release_steps}
 
--- the first that holds: 3 SPI mode 1 or 3, 4 instance above 3, 5 QPI on a chip without it, 7 limit 0; else 0
+-- the first that holds: 3 SPI mode 1 or 3, 4 instance above 3, 5 QPI on a chip without it, 14 core rate 0, 7 limit 0;
+-- else 0
 unfoldable pub opening_refusal : Opening → ℕ → ℕ
 opening_refusal o limit =
     let c = o.config in
-    cond (not (supported c.mode)) 3 (cond (ltb 3 o.instance) 4 (cond (is_qpi c.work_mode && not o.qpi) 5 (cond (eqb limit 0) 7 0)))
+    cond (not (supported c.mode)) 3
+    (cond (ltb 3 o.instance) 4
+    (cond (is_qpi c.work_mode && not o.qpi) 5 (cond (eqb o.core_hz 0) 14 (cond (eqb limit 0) 7 0))))
 
 -- the clock, for the target clamped; and the rate that it gives
 abbrev pub clock_of : Opening → Choice

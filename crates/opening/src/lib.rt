@@ -29,6 +29,8 @@ pub struct Opening {
     pub instance: u32,
     // The chip has QPI.
     pub qpi: bool,
+    // The rate of the core, in Hz, whose cycles a delay record counts.
+    pub core_hz: u32,
     pub config: QspiConfig,
     pub clock_tree: ClockTree,
 }

@@ -13,10 +13,12 @@ use Rattle.config.specs.Config.{work_mode_of}
 use Rattle.config.specs.declared.config.WorkMode.{WorkMode}
 use Rattle.config.specs.declared.error.QspiError.{QspiError}
 use Rattle.config.specs.declared.error.QspiError.TheVariants.{Window, Length}
+use Rattle.records.specs.declared.rules.Rules.{Rules}
+use Rattle.records.specs.Rules.{highest}
 use Rattle.records.specs.Kinds.{kind_of}
 use Rattle.records.specs.declared.kinds.Cap.{Cap}
-use Rattle.records.specs.Check.{record_at, field, known, out_of_range, next_fits, next_of, outside_of, too_long, extent_in}
-use Rattle.records.specs.Check.{extents_fault, windows_fault, record_fault}
+use Rattle.records.specs.Check.{record_at, field, known, out_of_range, next_fits, next_of, too_many, outside_of}
+use Rattle.records.specs.Check.{too_long, extent_in, extents_fault, windows_fault, record_fault}
 use Rattle.records.specs.Record.{records_of, record_of, windows_of}
 use Rattle.records.specs.Laws.{StatesKnown, StatesWindows}
 use Rattle.records.specs.declared.extent.Extent.{Extent}
@@ -129,28 +131,33 @@ no_error : (b : Bool) (e : QspiError) (x : Result (Unit {0}) QspiError) → cond
 no_error true e x h = cc
 no_error false e x h = (refl, h)
 
-known_nine : (highest k : ℕ) → known highest k ≡ true → known 9 k ≡ true
-known_nine highest k h = grind (arith, nat_tests)
+known_nine : (most k : ℕ) → known most k ≡ true → known 9 k ≡ true
+known_nine most k h = grind (arith, nat_tests)
 
--- A record without a fault: its kind, its fields, its next and its windows have passed.
-module _ (highest memory count own : ℕ) (r : List ℕ) (e : record_fault highest memory count own r ≡ Ok tt) where
+-- A record without a fault: its kind, its fields, its next, its cycles and its windows have passed.
+module _ (rules : Rules) (memory count own : ℕ) (r : List ℕ) (e : record_fault rules memory count own r ≡ Ok tt) where
   pub tests_passed :
-      (known highest (field r 0) ≡ true)
+      (known (highest rules) (field r 0) ≡ true)
       × (out_of_range r ≡ false)
       × (next_fits own count (next_of r) ≡ true)
+      × (too_many rules (field r 0) (field r 1) ≡ false)
       × (windows_fault memory r ≡ Ok tt)
   unfolding record_fault
   tests_passed =
       let kind = no_error _ _ _ e in
       let next = no_error _ _ _ kind.1 in
+      let cycles = no_error _ _ _ next.1 in
       let n = neither _ _ kind.0 in
-      (not-false _ n.0, n.1, not-false _ next.0, next.1)
+      (not-false _ n.0, n.1, not-false _ next.0, cycles.0, cycles.1)
 
-  pub known_kind : known highest (field r 0) ≡ true
+  pub known_kind : known (highest rules) (field r 0) ≡ true
   known_kind = tests_passed.0
 
   pub fitting_next : next_fits own count (next_of r) ≡ true
   fitting_next = tests_passed.2
+
+  pub fitting_cycles : too_many rules (field r 0) (field r 1) ≡ false
+  fitting_cycles = tests_passed.3
 
   -- It is stated by its words, and so are its windows.
   pub stated : (s : Record) × (record_of r ≡ Some s) × (extents_fault memory (windows_of s) ≡ Ok tt)
@@ -164,7 +171,7 @@ module _ (highest memory count own : ℕ) (r : List ℕ) (e : record_fault highe
           rw (known_nine _ _ known_kind, tests_passed.1) refl in
           let none : false ≡ true = rw f at (states_known r) ∙ known in
           cc
-      by (Some s) f = (s, f, ap (extents_fault memory) (rw f at (states_windows r)) ∙ tests_passed.3)
+      by (Some s) f = (s, f, ap (extents_fault memory) (rw f at (states_windows r)) ∙ tests_passed.4)
 
 -- Every window lies in a memory, and every length of a phase fits one.
 abbrev pub AllIn : ℕ → List Extent → Type 0

@@ -3,6 +3,7 @@ pub mod KindLaws
 pub mod WalkLaws
 pub mod Holds
 pub mod Lengths
+pub mod Last
 pub mod Settled
 pub mod Known
 pub mod Unused

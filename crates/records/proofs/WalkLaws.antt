@@ -7,6 +7,7 @@ use Rattle.std.proofs.lemmas.Bool.{ne_eqb, eq-eqb}
 use Rattle.std.proofs.lemmas.Bool.Decides.{nat_tests}
 use Rattle.std.proofs.Math.Seq.{drop-drop}
 use Rattle.config.specs.declared.error.QspiError.{QspiError}
+use Rattle.records.specs.declared.rules.Rules.{Rules}
 use Rattle.records.specs.Check.{record_at, next_of, next_fits, record_fault}
 use Rattle.records.proofs.KindLaws.{fitting_next}
 use Rattle.records.specs.Check.{Checked, fault, ahead, step, records_in, along, checked, verdict}
@@ -15,9 +16,9 @@ next_is : (own count n : ℕ) → next_fits own count n ≡ true → (n ≡ 0) �
 next_is own count n h = grind (arith, nat_tests)
 
 -- the next of a record without a fault
-pub sound_next : (highest memory count own : ℕ) (r : List ℕ) → record_fault highest memory count own r ≡ Ok tt
+pub sound_next : (rules : Rules) (memory count own : ℕ) (r : List ℕ) → record_fault rules memory count own r ≡ Ok tt
     → (next_of r ≡ 0) ⊎ ((own < next_of r) × (next_of r ≤ count))
-sound_next highest memory count own r e = next_is own count (next_of r) (fitting_next highest memory count own r e)
+sound_next rules memory count own r e = next_is own count (next_of r) (fitting_next rules memory count own r e)
 
 -- the records behind k others
 drop_records : (k n : ℕ) (ws : List ℕ) → drop k (records_in n ws) ≡ records_in (n - k) (drop (8 * k) ws)
@@ -33,13 +34,13 @@ pub passed : (r : List ℕ) (rest : Checked) → verdict (ahead r rest) ≡ verd
 passed r (Err f) = refl
 passed r (Ok rs) = refl
 
-module _ (highest memory : ℕ) (ws : List ℕ) where
+module _ (rules : Rules) (memory : ℕ) (ws : List ℕ) where
   abbrev pub count : ℕ
   count = length ws / 8
 
   -- the fault of record own, and its next
   abbrev pub fault_at : ℕ → Result (Unit {0}) QspiError
-  fault_at own = record_fault highest memory count own (record_at ws own)
+  fault_at own = record_fault rules memory count own (record_at ws own)
 
   abbrev pub next_at : ℕ → ℕ
   next_at own = next_of (record_at ws own)
@@ -49,7 +50,7 @@ module _ (highest memory : ℕ) (ws : List ℕ) where
   left k = drop k (records_in count ws)
 
   abbrev pub from : ℕ → Checked
-  from own = along highest memory count (left (own - 1)) own own
+  from own = along rules memory count (left (own - 1)) own own
 
   left_next : (own : ℕ) → 1 ≤ own → own ≤ count → left (own - 1) ≡ record_at ws own ∷ left own
   unfolding records_in record_at
@@ -60,7 +61,7 @@ module _ (highest memory : ℕ) (ws : List ℕ) where
 
   -- records that are not due are not looked at
   passes : (k own due : ℕ) (rs : List (List ℕ)) → due ≡ own + k
-      → along highest memory count rs own due ≡ along highest memory count (drop k rs) due due
+      → along rules memory count rs own due ≡ along rules memory count (drop k rs) due due
   unfolding along
   passes zero own due rs e = let f : own ≡ due = omega arith in rw f refl
   passes (suc k) own due [] e = refl
@@ -69,7 +70,7 @@ module _ (highest memory : ℕ) (ws : List ℕ) where
 
   -- what stands behind record own
   behind : ℕ → Checked
-  behind own = cond (eqb (next_at own) 0) (Ok []) (along highest memory count (left own) (suc own) (next_at own))
+  behind own = cond (eqb (next_at own) 0) (Ok []) (along rules memory count (left own) (suc own) (next_at own))
 
   from_at : (own : ℕ) → 1 ≤ own → own ≤ count → from own ≡ step (fault_at own) own (record_at ws own) (behind own)
   unfolding along behind
@@ -85,9 +86,9 @@ module _ (highest memory : ℕ) (ws : List ℕ) where
   unfolding behind
   from_on own one most e more =
       let l : (own < next_at own) × (next_at own ≤ count) =
-      elim (sound_next highest memory count own (record_at ws own) e) [ inl z ↦ absurd (more z) | inr l ↦ l ] in
+      elim (sound_next rules memory count own (record_at ws own) e) [ inl z ↦ absurd (more z) | inr l ↦ l ] in
       let g : own + (next_at own - suc own) ≡ next_at own - 1 = omega (arith, l.0) in
-      let moved : along highest memory count (left own) (suc own) (next_at own) ≡ from (next_at own) =
+      let moved : along rules memory count (left own) (suc own) (next_at own) ≡ from (next_at own) =
       passes (next_at own - suc own) (suc own) (next_at own) (left own) (omega (arith, l.0)) ∙ rw (drop-drop, g) refl in
       (l.0, l.1, from_at own one most ∙ rw (e, ne_eqb _ _ more) (ap (ahead (record_at ws own)) moved))
 
@@ -96,24 +97,24 @@ module _ (highest memory : ℕ) (ws : List ℕ) where
   from_fault own e one most h = from_at own one most ∙ rw h refl
 
   -- the whole chain
-  pub whole_empty : length ws % 8 ≡ 0 → count ≡ 0 → checked highest memory ws ≡ Ok []
+  pub whole_empty : length ws % 8 ≡ 0 → count ≡ 0 → checked rules memory ws ≡ Ok []
   unfolding checked along records_in
   whole_empty m z = simp (eq-eqb _ _ m, z)
 
-  pub whole_from : length ws % 8 ≡ 0 → checked highest memory ws ≡ from 1
+  pub whole_from : length ws % 8 ≡ 0 → checked rules memory ws ≡ from 1
   unfolding checked
   whole_from m = simp (eq-eqb _ _ m)
 
   -- a turn at record own, in which it was read as r
   module _ (own : ℕ) (one : 1 ≤ own) (most : own ≤ count) (r : List ℕ) (here : r ≡ record_at ws own) where
-    pub turn_stops : (e : QspiError) → record_fault highest memory count own r ≡ Err e
+    pub turn_stops : (e : QspiError) → record_fault rules memory count own r ≡ Err e
         → verdict (from own) ≡ Err (fault e own)
     turn_stops e f = ap verdict (from_fault own e one most (rw here at f))
 
-    pub turn_ends : record_fault highest memory count own r ≡ Ok tt → next_of r ≡ 0 → verdict (from own) ≡ Ok tt
+    pub turn_ends : record_fault rules memory count own r ≡ Ok tt → next_of r ≡ 0 → verdict (from own) ≡ Ok tt
     turn_ends f z = ap verdict (from_last own one most (rw here at f) (rw here at z))
 
-    pub turn_goes_on : record_fault highest memory count own r ≡ Ok tt → (next_of r ≡ 0 → ⊥)
+    pub turn_goes_on : record_fault rules memory count own r ≡ Ok tt → (next_of r ≡ 0 → ⊥)
         → (own < next_of r) × (next_of r ≤ count) × (verdict (from (next_of r)) ≡ verdict (from own))
     turn_goes_on f more =
         let on = from_on own one most (rw here at f) (rw here at more) in

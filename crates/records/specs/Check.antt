@@ -1,11 +1,14 @@
--- The check of a chain of records of eight words (document 01, "Chain and sheet"): record by record 8, 9, 6.
+-- The check of a chain of records of eight words (document 01, "Chain and sheet"): record by record 8, 14 by request
+-- 2, 9, 6.
 use Rattle.std.specs.Prelude.{ℕ, suc, ◌+◌, ◌-◌, ◌*◌, ◌/◌, ◌%◌, Bool, not, cond, ◌&&◌, ◌||◌, leb, ltb, eqb}
 use Rattle.std.specs.Prelude.{List, [], ◌∷◌, map, length, get_or, take, drop, Result, Ok, Err}
 use Rattle.std.specs.List.{list_any}
 use Rattle.std.specs.Simd.{first_chunks}
 use Rattle.config.specs.declared.error.QspiError.{QspiError}
-use Rattle.config.specs.declared.error.QspiError.TheVariants.{Chain, Window, Length}
+use Rattle.config.specs.declared.error.QspiError.TheVariants.{Chain, Delay, Window, Length}
 use Rattle.config.specs.Error.{error_number}
+use Rattle.records.specs.declared.rules.Rules.{Rules}
+use Rattle.records.specs.Rules.{highest, cycles}
 use Rattle.records.specs.Kinds.{kind_of}
 use Rattle.records.specs.declared.extent.Extent.{Extent}
 use Rattle.records.specs.declared.kinds.Window as kinds
@@ -25,13 +28,17 @@ next_of r = field r 7
 
 -- 8: a kind from 1 to the highest allowed, each field in its range, and a next that is 0 or a later record's number
 abbrev pub known : ℕ → ℕ → Bool
-known highest k = leb 1 k && (leb k highest && leb k 9)
+known most k = leb 1 k && (leb k most && leb k 9)
 
 unfoldable pub out_of_range : List ℕ → Bool
 out_of_range r = list_any (λ (c : Cap). ltb c.most (field r c.field)) (kind_of (field r 0)).caps
 
 abbrev pub next_fits : ℕ → ℕ → ℕ → Bool
 next_fits own count next = eqb next 0 || (ltb own next && leb next count)
+
+-- 14 (request 2): a delay of more cycles than 32 bits hold
+abbrev pub too_many : Rules → ℕ → ℕ → Bool
+too_many rules k ns = eqb k 5 && ltb 0xFFFFFFFF (cycles rules ns)
 
 -- a window's values in a record
 abbrev pub extent : ℕ → ℕ → Bool → Extent
@@ -59,10 +66,11 @@ unfoldable pub windows_fault : ℕ → List ℕ → Result (Unit {0}) QspiError
 windows_fault memory r = extents_fault memory (extents_of r)
 
 -- the first fault of a record, if it has one
-unfoldable pub record_fault : ℕ → ℕ → ℕ → ℕ → List ℕ → Result (Unit {0}) QspiError
-record_fault highest memory count own r =
-    cond (not (known highest (field r 0)) || out_of_range r) (Err Chain)
-    (cond (not (next_fits own count (next_of r))) (Err Chain) (windows_fault memory r))
+unfoldable pub record_fault : Rules → ℕ → ℕ → ℕ → List ℕ → Result (Unit {0}) QspiError
+record_fault rules memory count own r =
+    cond (not (known (highest rules) (field r 0)) || out_of_range r) (Err Chain)
+    (cond (not (next_fits own count (next_of r))) (Err Chain)
+    (cond (too_many rules (field r 0) (field r 1)) (Err Delay) (windows_fault memory r)))
 
 -- the first fault with its record (0: the slice itself), or document 01's *chain*: its records, in order
 abbrev pub Checked : Type 0
@@ -95,19 +103,19 @@ records_in = first_chunks 8
 
 -- Through the records from number `own` on: those before record `due` are not looked at. A next of 0 ends the chain;
 -- any other is larger than its own number.
-unfoldable pub along : ℕ → ℕ → ℕ → List (List ℕ) → ℕ → ℕ → Checked
-along highest memory count [] own due = Ok []
-along highest memory count (r ∷ rs) own due =
-    let later = along highest memory count rs (suc own) in
+unfoldable pub along : Rules → ℕ → ℕ → List (List ℕ) → ℕ → ℕ → Checked
+along rules memory count [] own due = Ok []
+along rules memory count (r ∷ rs) own due =
+    let later = along rules memory count rs (suc own) in
     let next = next_of r in
     let behind = cond (eqb next 0) (Ok []) (later next) in
-    cond (eqb own due) (step (record_fault highest memory count own r) own r behind) (later due)
+    cond (eqb own due) (step (record_fault rules memory count own r) own r behind) (later due)
 
 -- 8 for a slice that is no multiple of eight; else the chain, which starts at record 1
-unfoldable pub checked : ℕ → ℕ → List ℕ → Checked
-checked highest memory ws =
+unfoldable pub checked : Rules → ℕ → List ℕ → Checked
+checked rules memory ws =
     let count = length ws / 8 in
-    cond (eqb (length ws % 8) 0) (along highest memory count (records_in count ws) 1 1) (Err (fault Chain 0))
+    cond (eqb (length ws % 8) 0) (along rules memory count (records_in count ws) 1 1) (Err (fault Chain 0))
 
 -- the records that are run
 abbrev pub chain_of : Checked → List (List ℕ)

@@ -2,16 +2,18 @@
 #![tactic(auto)]
 
 ghost use Rattle.std.specs.Prelude.{◌≡◌, ◌*◌, ◌≤◌, length};
-ghost use Rattle.records.specs.Check.{record_at, next_fits, record_fault, checked, verdict};
+ghost use Rattle.records.specs.Check.{record_at, next_fits, too_many, record_fault, checked, verdict};
 
 use config::QspiError;
 
 pub mod extent;
 pub mod kinds;
 pub mod record;
+pub mod rules;
 
 pub use extent::Extent;
 pub use record::Record;
+pub use rules::Rules;
 
 // The first fault of a chain.
 #[derive(Clone, Copy, PartialEq, Eq)]
@@ -37,29 +39,39 @@ fn next_fits(own: usize, count: usize, next: usize) -> bool
     next == 0 || (own < next && next <= count)
 }
 
+// Is it a delay of more cycles than 32 bits hold?
+fn too_many(rules: Rules, kind: u32, ns: u32) -> bool
+    ensures { result ≡ too_many rules kind ns }
+{
+    kind == 5 && rules.cycles(ns).is_none()
+}
+
 // The first fault of record `own` of `count`.
 #[tactic(auto, unfolding(crate::specs::Check::record_fault))]
 fn record_fault(
     r: [u32; 8],
     own: usize,
     count: usize,
-    highest: u32,
+    rules: Rules,
     memory: usize,
 ) -> Result<(), QspiError>
-    ensures { result ≡ record_fault highest memory count own r }
+    ensures { result ≡ record_fault rules memory count own r }
 {
-    if !kinds::known(highest, r[0]) || kinds::out_of_range(&r) {
+    if !kinds::known(rules.highest(), r[0]) || kinds::out_of_range(&r) {
         return Err(QspiError::Chain);
     }
     if !next_fits(own, count, r[7] as usize) {
         return Err(QspiError::Chain);
     }
+    if too_many(rules, r[0], r[1]) {
+        return Err(QspiError::Delay);
+    }
     kinds::windows_fault(&r, memory)
 }
 
 // Goes along the chain from its first record, and stops at the first fault.
-pub fn check(words: &[u32], highest: u32, memory: usize) -> Result<(), Fault>
-    ensures { result ≡ verdict (checked highest memory words.now) }
+pub fn check(words: &[u32], rules: Rules, memory: usize) -> Result<(), Fault>
+    ensures { result ≡ verdict (checked rules memory words.now) }
 {
     if words.len() % 8 != 0 {
         return Err(Fault {
@@ -74,7 +86,7 @@ pub fn check(words: &[u32], highest: u32, memory: usize) -> Result<(), Fault>
     let mut own = 1;
     loop {
         let r = record_at(words, own);
-        record_fault(r, own, count, highest, memory).map_err(|error| Fault { error, record: own })?;
+        record_fault(r, own, count, rules, memory).map_err(|error| Fault { error, record: own })?;
         let next = r[7] as usize;
         if next == 0 {
             return Ok(());

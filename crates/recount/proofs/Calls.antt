@@ -20,6 +20,7 @@ use Rattle.transfer.specs.Transfer.{transfer_steps, part_steps, parts, in_place_
 use Rattle.quad.specs.Quad.{quad_mode, standard_mode, quad_start, quad_steps}
 use Rattle.windows.specs.Windows.{write_window, transfer_windows, read_quad_windows, write_quad_windows}
 use Rattle.records.specs.Check.{field}
+use Rattle.chain.specs.declared.request.Settings.{Settings}
 use Rattle.chain.specs.Chain.{mode_steps, kind_steps, record_steps, chain_steps}
 use Rattle.bus.specs.Calls.{Call, steps_of}
 use Rattle.recount.proofs.Paired.{Paired, then_paired, finally_paired, change_008, change_at, wait_paired}
@@ -114,8 +115,8 @@ numbered_paired : (qpi : Bool) (found : Option WorkMode) → Paired (mode_steps 
 numbered_paired qpi (Some mode) = mode_paired qpi mode
 numbered_paired qpi None = ends done
 
-module _ (rate : ℕ) (qpi : Bool) where
-  kind_paired : (f : ℕ → ℕ) (k : ℕ) → Paired (get_or (kind_steps rate qpi f) k (end done))
+module _ (settings : Settings) where
+  kind_paired : (f : ℕ → ℕ) (k : ℕ) → Paired (get_or (kind_steps settings f) k (end done))
   unfolding write_window transfer_windows in_place_steps read_quad_windows write_quad_windows
   kind_paired f zero = ends done
   kind_paired f (suc zero) = looks (λ m. tx_paired true _)
@@ -124,13 +125,13 @@ module _ (rate : ℕ) (qpi : Bool) where
   kind_paired f (suc (suc (suc (suc zero)))) = parts_paired _ (f 1) (f 2)
   kind_paired f (suc (suc (suc (suc (suc zero))))) = delay_paired _
   kind_paired f (suc (suc (suc (suc (suc (suc zero)))))) = wait_paired start
-  kind_paired f (suc (suc (suc (suc (suc (suc (suc zero))))))) = numbered_paired qpi (work_mode_of (f 1))
+  kind_paired f (suc (suc (suc (suc (suc (suc (suc zero))))))) = numbered_paired settings.qpi (work_mode_of (f 1))
   kind_paired f (suc (suc (suc (suc (suc (suc (suc (suc zero)))))))) = looks (λ m. quad_paired _ (rx_paired (f 5) (f 6)))
   kind_paired f (suc (suc (suc (suc (suc (suc (suc (suc (suc zero))))))))) = looks (λ m. quad_paired _ (tx_paired false _))
   kind_paired f (suc (suc (suc (suc (suc (suc (suc (suc (suc (suc k)))))))))) = ends done
 
   -- every chain
-  pub chain_paired : (rs : List (List ℕ)) → Paired (chain_steps rate qpi rs)
+  pub chain_paired : (rs : List (List ℕ)) → Paired (chain_steps settings rs)
   unfolding chain_steps record_steps
   chain_paired [] = ends done
   chain_paired (r ∷ rs) = then_paired (kind_paired (field r) (field r 0)) (chain_paired rs)

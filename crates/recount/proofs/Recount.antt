@@ -81,7 +81,7 @@ calls_recount call limit answers log m = called_recounts _ (call_paired call) li
 
 pub chains_recount : ChainsRecount
 unfolding chain.outcome
-chains_recount c limit answers log m = called_recounts _ (chain_paired c.rate c.qpi _) limit answers log m
+chains_recount c limit answers log m = called_recounts _ (chain_paired c.settings _) limit answers log m
 
 pub sheets_recount : SheetsRecount
 unfolding sheet_outcome

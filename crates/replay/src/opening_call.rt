@@ -32,10 +32,12 @@ pub fn open(alloc: Global, mut f: Fields<'_>) -> Result<Vec<u8>, Failure> {
         pll_fra0: f.number()?,
         osc_24m: f.number()?,
     };
+    let core_hz = f.number()?;
     let qpi = f.flag()?;
     let found = found.map(|config| Opening {
         instance,
         qpi,
+        core_hz,
         config,
         clock_tree,
     });

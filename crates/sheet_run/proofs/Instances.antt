@@ -12,6 +12,7 @@ use Rattle.model.specs.Tally.{plus, poll_tally, tally_event, tally_of}
 use Rattle.model.specs.Steps.{then, wait_for}
 use Rattle.model.specs.Run.{entered, answered, poll, run}
 use Rattle.model.specs.State.{room_of, ran, onward, advance, called}
+use Rattle.records.specs.Rules.{cycles}
 use Rattle.records.specs.Check.{out_of_range, extents_fault, windows_fault, record_fault, records_in, along, checked}
 use Rattle.chain.specs.Chain.{record_steps, chain_steps}
 use Rattle.chain.specs.Transaction.{first_fault, refusal, outcome}
@@ -35,7 +36,7 @@ quads_end = met.unsupported
 
 pub hypotheses_met : HypothesesMet
 unfolding get_field head_of value_of answer_of answers_of receive words stored plus poll_tally tally_event tally_of then wait_for entered answered poll run room_of ran
-    onward advance called out_of_range extents_fault windows_fault record_fault records_in along checked record_steps chain_steps
+    onward advance called cycles out_of_range extents_fault windows_fault record_fault records_in along checked record_steps chain_steps
     first_fault refusal outcome parse sheet_outcome sheet_state end_state sheet_fault
 hypotheses_met =
     record {

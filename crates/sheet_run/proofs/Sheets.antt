@@ -15,8 +15,9 @@ use Rattle.model.specs.State.{with_memory}
 use Rattle.access.specs.declared.progress.Progress.{Progress}
 use Rattle.config.specs.declared.error.QspiError.TheVariants.{Sheet as Thirteen}
 use Rattle.access.specs.Of.{state_of, refused}
+use Rattle.records.specs.declared.rules.Rules.TheVariants.{Sheet}
 use Rattle.records.specs.Check.{checked, fault}
-use Rattle.chain.specs.Transaction.{first_fault, Transacts}
+use Rattle.chain.specs.Transaction.{first_fault, Transacts, sheet_chain}
 use Rattle.chain.proofs.Running.{not_fine}
 use Rattle.chain.proofs.Entry.{fault_free}
 use Rattle.records.specs.declared.Fault.{Fault}
@@ -121,7 +122,7 @@ module _ (bs : List ℕ) where
 
   -- what the check finds, by the header and the words of the records
   pub fault_read : (h : Header) → Heads bs h → {recs : List ℕ} → recs ≡ words (8 * h.records) (drop 20 bs)
-      → sheet_fault (parse bs) ≡ first_fault h.limit (checked 9 (length bs - h.memory) recs)
+      → sheet_fault (parse bs) ≡ first_fault h.limit (checked Sheet (length bs - h.memory) recs)
   unfolding sheet_fault
   fault_read h d e =
       let k = memory_from (record_count bs) (answer_count bs) in
@@ -130,7 +131,7 @@ module _ (bs : List ℕ) where
 
   -- what a run of them comes to, with any answers and with the sheet's own
   module _ (h : Header) (d : Heads bs h) {recs xs log log' m' : List ℕ} {r : Progress} (e : recs ≡ words (8 * h.records) (drop 20 bs))
-      (ran : Transacts (record { rate = h.rate; qpi = h.qpi; highest = 9; words = recs }) h.limit xs log
+      (ran : Transacts (sheet_chain h.rate h.qpi recs) h.limit xs log
       (take (length bs - h.memory) (drop h.memory bs)) r log' m') where
     state_is : state_of r log' (take h.memory bs ++ (m' ++ drop (length bs - h.memory) (drop h.memory bs)))
         ≡ state_read bs (with_answers xs (sheet (sheet_of bs))) log
@@ -175,7 +176,7 @@ module _ (bs : List ℕ) where
     has_limit None m = absurd ((fault_free h.limit _ (sym (fault_read h d refl) ∙ q)).0 m)
 
     pub may_run : {recs : List ℕ} → recs ≡ words (8 * h.records) (drop 20 bs)
-        → first_fault h.limit (checked 9 (length (take (length bs - h.memory) (drop h.memory bs))) recs) ≡ Ok tt
+        → first_fault h.limit (checked Sheet (length (take (length bs - h.memory) (drop h.memory bs))) recs) ≡ Ok tt
     may_run {recs} e =
         let l : length (take (length bs - h.memory) (drop h.memory bs)) ≡ length bs - h.memory =
         length-take-le (length bs - h.memory) (drop h.memory bs) (omega (arith, length-drop h.memory bs)) in

@@ -53,6 +53,10 @@ OwnAnswers = (s : Sheet) (bs log : List ℕ) → parse bs ≡ sheet s → state_
 abbrev pub SheetNever6 : Type 0
 SheetNever6 = (bs log : List ℕ) → (sheet_state bs log).number ≡ 6 → ⊥
 
+-- Nor is 14: half the nanoseconds always fit (request 2).
+abbrev pub SheetNever14 : Type 0
+SheetNever14 = (bs log : List ℕ) → Below 256 bs → (sheet_state bs log).number ≡ 14 → ⊥
+
 -- a sheet of one flush whose first poll is unready, at limit 2
 abbrev pub flush_bytes : List ℕ
 flush_bytes = spell (2 ∷ 0 ∷ 0 ∷ 1 ∷ 2 ∷ 6 ∷ 0 ∷ 0 ∷ 0 ∷ 0 ∷ 0 ∷ 0 ∷ 0 ∷ 0x80000000 ∷ 0 ∷ [])

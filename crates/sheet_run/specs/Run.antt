@@ -1,4 +1,5 @@
--- The check and the run of a sheet (document 01, "Chain and sheet"): its chain as a transaction of kinds 1 to 9, on its memory.
+-- The check and the run of a sheet (document 01, "Chain and sheet"): its chain as a transaction of kinds 1 to 9, on its
+-- memory. By request 2 it keeps document 01's delays.
 use Rattle.std.specs.Prelude.{◌≡◌, List, [], ◌++◌, ℕ, ◌-◌, None, Result, Ok, Err, eqb, length, take}
 use Rattle.std.proofs.Common.{Bor}
 use Rattle.model.specs.State.{State, begun, with_number, with_memory}
@@ -6,24 +7,26 @@ use Rattle.config.specs.declared.error.QspiError.TheVariants.{Sheet as Thirteen}
 use Rattle.access.specs.declared.progress.Progress.{Progress}
 use Rattle.access.specs.Of.{state_of}
 use Rattle.records.specs.declared.Fault.{Fault}
-use Rattle.records.specs.Check.{checked, fault}
+use Rattle.records.specs.declared.rules.Rules.TheVariants as rules
+use Rattle.records.specs.Check.{fault}
 use Rattle.chain.specs.declared.request.Request as code
-use Rattle.chain.specs.Transaction.{Request, first_fault, outcome}
+use Rattle.chain.specs.Transaction.{Request, found_in, first_fault, outcome, sheet_chain}
 use Rattle.sheet.specs.declared.Header.{Header}
 use Rattle.sheet.specs.Open.{number_of}
 use Rattle.sheet.specs.Sheet.{Sheet, Parsed, refused, sheet, parse}
 
 abbrev pub chain_in : Sheet → Request
-chain_in s = record { rate = s.rate; qpi = eqb s.qpi 1; highest = 9; words = s.records }
+chain_in s = sheet_chain s.rate (eqb s.qpi 1) s.records
 
 -- the same of a header, with the words that were read
 abbrev pub request_read : Header → Bor (List ℕ) → code.Request
-request_read h words = record { rate = h.rate; qpi = h.qpi; highest = 9; words = words }
+request_read h words =
+    record { settings = record { rate = h.rate; qpi = h.qpi; rules = rules.Sheet }; words = words }
 
 -- what the check finds: 13, which precedes the rest, then 7, each at no record, then the first fault along the chain
 unfoldable pub sheet_fault : Parsed → Result (Unit {0}) Fault
 sheet_fault refused = Err (fault Thirteen 0)
-sheet_fault (sheet s) = first_fault s.limit (checked (chain_in s).highest (length s.memory) s.records)
+sheet_fault (sheet s) = first_fault s.limit (found_in (chain_in s) (length s.memory))
 
 -- what is answered: the header, where no fault is found
 abbrev pub header_unless : Header → Result (Unit {0}) Fault → Result Header Fault

@@ -10,9 +10,9 @@ ghost use Rattle.sheet.specs.Open.{header_of, opened};
 ghost use Rattle.sheet_run.specs.Run.{request_read, header_unless, sheet_fault, RunsSheet, RunsWith};
 
 use access::Progress;
-use chain::Request;
+use chain::{Request, Settings};
 use config::QspiError;
-use records::Fault;
+use records::{Fault, Rules};
 use sheet::Header;
 use std::num::NonZeroU32;
 
@@ -32,14 +32,17 @@ fn header(bytes: &[u8]) -> Result<Header, Fault>
     })
 }
 
-// What a sheet of this header runs: the words of its records, of all kinds.
+// What a sheet of this header runs: the words of its records, of all kinds, with the old delays.
 fn request<'a>(h: &Header, records: &'a [u32]) -> Request<'a>
     ensures { result ≡ request_read h.now records.entry }
 {
-    Request {
+    let settings = Settings {
         rate: h.rate,
         qpi: h.qpi,
-        highest: 9,
+        rules: Rules::Sheet,
+    };
+    Request {
+        settings,
         words: records,
     }
 }

@@ -8,7 +8,7 @@ invariant-loop-next l =
     record {
       one : 1 ≤ l.own;
       most : l.own ≤ length l.words / 8;
-      rest : verdict (from l.highest l.memory l.words l.own) ≡ verdict (checked l.highest l.memory l.words);
+      rest : verdict (from l.rules l.memory l.words l.own) ≡ verdict (checked l.rules l.memory l.words);
     }
 
 abbrev pub decreases-loop-next : goal.decreases-loop-next
