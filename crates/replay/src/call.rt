@@ -55,11 +55,12 @@ pub fn flush(alloc: Global, mut f: Fields<'_>) -> Result<Vec<u8>, Failure> {
 pub fn transaction(alloc: Global, mut f: Fields<'_>) -> Result<Vec<u8>, Failure> {
     let limit = f.number()?;
     let words = f.number()?;
+    let core_hz = f.number()?;
     let records = f.words()?;
     let given = f.bytes(alloc)?;
     let answers = f.list()?;
     on_memory(alloc, words, &given, |log, memory| {
-        chain::transaction(limit, log, answers, memory, records)
+        chain::transaction(limit, core_hz, log, answers, memory, records)
     })
 }
 
