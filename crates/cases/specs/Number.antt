@@ -1,6 +1,7 @@
 -- The numbers of a case's line: decimal, or hexadecimal with 0x and in lower case.
 use Rattle.std.specs.Prelude.{Bool, false, cond, List, [], ◌∷◌, ℕ, ◌+◌, ◌-◌, ◌*◌, ◌^◌, ltb, eqb, length, drop, get_or}
-use Rattle.std.specs.Prelude.{Option, None, Some, option_and_then}
+use Rattle.std.specs.Prelude.{Option, None, Some, option_and_then, unwrap_or, map, ◌==◌}
+use Rattle.std.specs.List.{slice_split}
 
 -- the value of a digit's byte, if it is one
 unfoldable pub digit_of : ℕ → Option ℕ
@@ -28,3 +29,7 @@ is_hex w = cond (ltb (length w) 3) false (cond (eqb (get_or w 0 0) 48) (eqb (get
 -- the number of a word, if it has one below 2^32
 unfoldable pub number_of : List ℕ → Option ℕ
 number_of w = cond (is_hex w) (value_of 16 0 (drop 2 w)) (cond (eqb (length w) 0) None (value_of 10 0 w))
+
+-- the numbers of a case's line, after its name; 0 for a word that is none
+abbrev pub numbers_of : List ℕ → List ℕ
+numbers_of case = map (λ word. unwrap_or (number_of word) 0) (drop 1 (slice_split (λ b. b == 32) case))

@@ -1,10 +1,12 @@
 // The text of a list of cases: where a case ends, the name and the numbers of its line, and where a byte is.
 #![tactic(auto)]
 
-ghost use Rattle.std.specs.Prelude.{◌≡◌, ◌+◌, ◌≤◌, ◌<◌, length, option_map, IfSome};
-ghost use Rattle.cases.specs.Number.{digit_of, step, value_of, number_of};
+ghost use Rattle.std.specs.Prelude.{◌≡◌, ◌+◌, ◌≤◌, ◌<◌, length, option_map, IfSome, IfOk};
+ghost use Rattle.cases.specs.Number.{digit_of, step, value_of, number_of, numbers_of};
 ghost use Rattle.cases.specs.Ends.{ends_at, end_from};
 ghost use Rattle.cases.specs.Find.{index_of, part_of, name_of};
+
+use std::alloc::{AllocError, Global};
 
 // The value of a hexadecimal digit, in lower case.
 fn digit(b: u8) -> Option<u32>
@@ -88,4 +90,14 @@ pub fn name(line: &[u8]) -> &[u8]
         Some(end) => &line[..end],
         None => line,
     }
+}
+
+// The numbers of a case's line, after its name; 0 for a word that is none.
+pub fn numbers(alloc: Global, case: &[u8]) -> Result<Vec<u32>, AllocError>
+    ensures { IfOk result (λ v. v.items ≡ numbers_of case.now) }
+{
+    case.split(|b| *b == b' ')
+        .skip(1)
+        .map(|word| number(word).unwrap_or(0))
+        .collect(alloc)
 }

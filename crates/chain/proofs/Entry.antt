@@ -32,7 +32,8 @@ use Rattle.records.proofs.Lengths.{fault_numbers}
 use Rattle.chain.specs.Chain.{chain_steps}
 use Rattle.chain.specs.Transaction.{Request, found_in, first_fault, refusal, outcome, FaultNumber, Transacts}
 use Rattle.chain.specs.Laws.{refusable, ChainSteady, ChainAgain, ChainRefused, ChainUntouched}
-use Rattle.chain.proofs.Running.{not_fine, finds, steps_in}
+use Rattle.records.proofs.WalkLaws.{not_fine}
+use Rattle.chain.proofs.Running.{finds, steps_in}
 
 -- the number of what the check finds is the refusal
 pub fault_number : FaultNumber

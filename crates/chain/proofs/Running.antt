@@ -27,35 +27,11 @@ use Rattle.records.specs.Record.{record_of}
 use Rattle.records.proofs.KindLaws.{fitting_cycles, stated}
 use Rattle.records.specs.declared.rules.Rules.{Rules}
 use Rattle.records.specs.Check.{record_at, next_of, Checked, fault, ahead, along, records_in, checked, verdict, chain_of}
-use Rattle.records.proofs.WalkLaws.{fault_at, next_at, from, from_fault, from_last, from_on, passed, whole_empty, whole_from}
+use Rattle.records.proofs.WalkLaws.{from, whole_empty, whole_from, fine_eight, no_fault, alone, before_others}
 use Rattle.chain.specs.Chain.{record_steps, chain_steps}
 use Rattle.chain.specs.Transaction.{Request, found_in}
 use Rattle.chain.specs.Of.{steps_of, Fits}
 use Rattle.chain.proofs.ByKind.{stated_steps, stated_fits}
-
--- a fault is not fine
-faults : Result (Unit {0}) Fault → ℕ
-faults (Err f) = 1
-faults (Ok done) = 0
-
-pub not_fine : (f : Fault) → ◌≡◌ {A = Result (Unit {0}) Fault} (Err f) (Ok tt) → ⊥
-unfolding faults
-not_fine f e = omega (arith, ap faults e)
-
-fine_eight : (rules : Rules) (memory : ℕ) (ws : List ℕ) → verdict (checked rules memory ws) ≡ Ok tt → length ws % 8 ≡ 0
-unfolding checked
-fine_eight rules memory ws = by (eqb (length ws % 8) 0) refl
-  where
-    by : (b : Bool) → eqb (length ws % 8) 0 ≡ b
-        → verdict (cond b (along rules memory (length ws / 8) (records_in (length ws / 8) ws) 1 1)
-        (Err (fault Chain 0))) ≡ Ok tt
-        → length ws % 8 ≡ 0
-    by true e f = eqb-true _ _ e
-    by false e f = absurd (not_fine (fault Chain 0) f)
-
-chain_ahead : (r : List ℕ) (c : Checked) → verdict c ≡ Ok tt → chain_of (ahead r c) ≡ r ∷ chain_of c
-chain_ahead r (Err f) e = absurd (not_fine f e)
-chain_ahead r (Ok rs) e = refl
 
 -- what the check finds in a request on that memory, and the steps of the chain; what it finds from a record on
 abbrev pub finds : Request → List ℕ → Checked
@@ -94,23 +70,14 @@ module _ (c : Request) where
         record { same = refl; one = omega arith; most = h; fine = fine; sound = few; state = rw w refl }
 
   module _ {limit : ℕ} {answers : List ℕ} {p r : Progress} {log m log' m' : List ℕ} {own : ℕ} (on : Running limit answers p log m r log' m' own) where
-    -- the record has no fault
-    no_fault : fault_at c.settings.rules (length m) c.words own ≡ Ok tt
-    no_fault = by (fault_at c.settings.rules (length m) c.words own) refl
-      where
-        by : (a : Result (Unit {0}) QspiError) → fault_at c.settings.rules (length m) c.words own ≡ a
-            → fault_at c.settings.rules (length m) c.words own ≡ Ok tt
-        by (Ok done) e = e
-        by (Err f) e = absurd (not_fine (fault f own)
-            (ap verdict (sym (from_fault c.settings.rules (length m) c.words own f on.one on.most e)) ∙ on.fine))
-
     -- what the code makes of it is a record whose windows lie in the memory
     pub stated_on : {rec : List ℕ} → rec ≡ record_at c.words own
         → (s : Record) × (record_of rec ≡ Some s) × Fits c.settings.rules (length m') s
     stated_on e =
         let count = length c.words / 8 in
-        let s = stated c.settings.rules (length m) count own (record_at c.words own) no_fault in
-        let cycles = fitting_cycles c.settings.rules (length m) count own (record_at c.words own) no_fault in
+        let none = no_fault c.settings.rules (length m) c.words own on.one on.most on.fine in
+        let s = stated c.settings.rules (length m) count own (record_at c.words own) none in
+        let cycles = fitting_cycles c.settings.rules (length m) count own (record_at c.words own) none in
         rw (on.same, e)
         (s.0, s.1, stated_fits c.settings.rules (length m) (record_at c.words own) s.0 s.1 cycles s.2)
 
@@ -125,16 +92,14 @@ module _ (c : Request) where
           (rw e at d.state)
 
       last : next_of rec ≡ 0 → chain_of (finds_from c m own) ≡ record_at c.words own ∷ []
-      last z = ap chain_of (from_last c.settings.rules (length m) c.words own on.one on.most no_fault (rw e at z))
+      last z = alone c.settings.rules (length m) c.words own on.one on.most on.fine (rw e at z)
 
       further : (next_of rec ≡ 0 → ⊥) → (own < next_of rec) × (next_of rec ≤ length c.words / 8)
           × (verdict (finds_from c m (next_of rec)) ≡ Ok tt)
           × (chain_of (finds_from c m own) ≡ record_at c.words own ∷ chain_of (finds_from c m (next_of rec)))
       further n =
-          let f = from_on c.settings.rules (length m) c.words own on.one on.most no_fault (λ z. n (ap next_of e ∙ z)) in
-          let rest = finds_from c m (next_at c.settings.rules (length m) c.words own) in
-          let fine : verdict rest ≡ Ok tt = sym (ap verdict f.2 ∙ passed (record_at c.words own) rest) ∙ on.fine in
-          rw e (f.0, f.1, fine, ap chain_of f.2 ∙ chain_ahead (record_at c.words own) rest fine)
+          rw e
+          (before_others c.settings.rules (length m) c.words own on.one on.most on.fine (λ z. n (ap next_of e ∙ z)))
 
       pub running_stops : (number_in t ≡ 0 → ⊥)
           → Runs (steps_in c m) limit answers p log m t log'' m''

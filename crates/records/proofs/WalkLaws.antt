@@ -1,16 +1,18 @@
 -- The chain, record by record: what a record without a fault says of its next, and the ways that a turn of a loop along
 -- the chain can go.
-use Rattle.std.proofs.Common.{◌≡◌, ℕ, zero, suc, ◌+◌, ◌-◌, ◌*◌, ◌/◌, ◌%◌, ◌<◌, ◌≤◌, true, cond}
+use Rattle.std.proofs.Common.{◌≡◌, ℕ, zero, suc, ◌+◌, ◌-◌, ◌*◌, ◌/◌, ◌%◌, ◌<◌, ◌≤◌, Bool, true, false, cond}
 use Rattle.std.proofs.Common.{eqb, List, [], ◌∷◌, length, drop, Result, Ok, Err, ◌⊎◌, inl, inr}
 use Rattle.std.proofs.Common.{refl, ap, sym, ◌∙◌, arith}
-use Rattle.std.proofs.lemmas.Bool.{ne_eqb, eq-eqb}
+use Rattle.std.proofs.lemmas.Bool.{ne_eqb, eq-eqb, eqb-true}
 use Rattle.std.proofs.lemmas.Bool.Decides.{nat_tests}
 use Rattle.std.proofs.Math.Seq.{drop-drop}
 use Rattle.config.specs.declared.error.QspiError.{QspiError}
+use Rattle.config.specs.declared.error.QspiError.TheVariants.{Chain}
+use Rattle.records.specs.declared.Fault.{Fault}
 use Rattle.records.specs.declared.rules.Rules.{Rules}
 use Rattle.records.specs.Check.{record_at, next_of, next_fits, record_fault}
 use Rattle.records.proofs.KindLaws.{fitting_next}
-use Rattle.records.specs.Check.{Checked, fault, ahead, step, records_in, along, checked, verdict}
+use Rattle.records.specs.Check.{Checked, fault, ahead, step, records_in, along, checked, verdict, chain_of}
 
 next_is : (own count n : ℕ) → next_fits own count n ≡ true → (n ≡ 0) ⊎ ((own < n) × (n ≤ count))
 next_is own count n h = grind (arith, nat_tests)
@@ -29,6 +31,31 @@ drop_records (suc k) (suc n) ws =
     let e : suc n - suc k ≡ n - k = omega arith in
     let f : 8 + 8 * k ≡ 8 * suc k = omega arith in
     drop_records k n (drop 8 ws) ∙ rw (e, drop-drop, f) refl
+
+-- a fault is not fine
+faults : Result (Unit {0}) Fault → ℕ
+faults (Err f) = 1
+faults (Ok done) = 0
+
+pub not_fine : (f : Fault) → ◌≡◌ {A = Result (Unit {0}) Fault} (Err f) (Ok tt) → ⊥
+unfolding faults
+not_fine f e = omega (arith, ap faults e)
+
+pub fine_eight : (rules : Rules) (memory : ℕ) (ws : List ℕ) → verdict (checked rules memory ws) ≡ Ok tt
+    → length ws % 8 ≡ 0
+unfolding checked
+fine_eight rules memory ws = by (eqb (length ws % 8) 0) refl
+  where
+    by : (b : Bool) → eqb (length ws % 8) 0 ≡ b
+        → verdict (cond b (along rules memory (length ws / 8) (records_in (length ws / 8) ws) 1 1)
+        (Err (fault Chain 0))) ≡ Ok tt
+        → length ws % 8 ≡ 0
+    by true e f = eqb-true _ _ e
+    by false e f = absurd (not_fine (fault Chain 0) f)
+
+chain_ahead : (r : List ℕ) (c : Checked) → verdict c ≡ Ok tt → chain_of (ahead r c) ≡ r ∷ chain_of c
+chain_ahead r (Err f) e = absurd (not_fine f e)
+chain_ahead r (Ok rs) e = refl
 
 pub passed : (r : List ℕ) (rest : Checked) → verdict (ahead r rest) ≡ verdict rest
 passed r (Err f) = refl
@@ -119,3 +146,24 @@ module _ (rules : Rules) (memory : ℕ) (ws : List ℕ) where
     turn_goes_on f more =
         let on = from_on own one most (rw here at f) (rw here at more) in
         rw here (on.0, on.1, sym (ap verdict on.2 ∙ passed (record_at ws own) (from (next_at own))))
+
+  -- a record from which on nothing is found
+  module _ (own : ℕ) (one : 1 ≤ own) (most : own ≤ count) (fine : verdict (from own) ≡ Ok tt) where
+    pub no_fault : fault_at own ≡ Ok tt
+    no_fault = by (fault_at own) refl
+      where
+        by : (a : Result (Unit {0}) QspiError) → fault_at own ≡ a → fault_at own ≡ Ok tt
+        by (Ok done) e = e
+        by (Err f) e = absurd (not_fine (fault f own) (ap verdict (sym (from_fault own f one most e)) ∙ fine))
+
+    pub alone : next_at own ≡ 0 → chain_of (from own) ≡ record_at ws own ∷ []
+    alone z = ap chain_of (from_last own one most no_fault z)
+
+    pub before_others : (next_at own ≡ 0 → ⊥)
+        → (own < next_at own) × (next_at own ≤ count) × (verdict (from (next_at own)) ≡ Ok tt)
+        × (chain_of (from own) ≡ record_at ws own ∷ chain_of (from (next_at own)))
+    before_others n =
+        let f = from_on own one most no_fault n in
+        let rest = from (next_at own) in
+        let behind : verdict rest ≡ Ok tt = sym (ap verdict f.2 ∙ passed (record_at ws own) rest) ∙ fine in
+        (f.0, f.1, behind, ap chain_of f.2 ∙ chain_ahead (record_at ws own) rest behind)

@@ -18,7 +18,7 @@ use Rattle.access.specs.Of.{state_of, refused}
 use Rattle.records.specs.declared.rules.Rules.TheVariants.{Sheet}
 use Rattle.records.specs.Check.{checked, fault}
 use Rattle.chain.specs.Transaction.{first_fault, Transacts, sheet_chain}
-use Rattle.chain.proofs.Running.{not_fine}
+use Rattle.records.proofs.WalkLaws.{not_fine}
 use Rattle.chain.proofs.Entry.{fault_free}
 use Rattle.records.specs.declared.Fault.{Fault}
 use Rattle.sheet.specs.declared.Header.{Header}

@@ -4,8 +4,8 @@ use Rattle.std.proofs.lemmas.Slice.Eq.{bytes_eq-Decides}
 use Rattle.verdicts.specs.declared.Verdict.{Verdict}
 use Rattle.cases.specs.Number.{number_of, is_hex, value_of, step, digit_of, in_32}
 use Rattle.verdicts.specs.Refused.{has_own, oracles_own, refusable, refused, refused_end, refusing}
-use Rattle.verdicts.specs.Modes.{record_modes, modes_along, modes_of}
-use Rattle.verdicts.specs.Leaves.{has_modes, mode_word, halved, due_byte}
+use Rattle.leaves_qpi.specs.Modes.{record_modes, modes_along, modes_of}
+use Rattle.leaves_qpi.specs.Leaves.{has_modes, mode_word, halved, due_byte}
 use Rattle.verdicts.specs.Departures.{agreed}
 use Rattle.verdicts.specs.Judged.{judged}
 use Rattle.verdicts.specs.Laws.{SameAreEqual, EqualAreSame, ExcludedIsAgreed, HypothesesMet}

@@ -1,5 +1,3 @@
 pub mod Equal
 pub mod Ends
 pub mod Laws
-pub mod Along
-pub mod Due

@@ -2,8 +2,8 @@
 use Rattle.std.specs.Prelude.{ℕ, Bool, ◌&&◌, cond, List, [], ◌∷◌, Option, None, Some, bytes_eq}
 use Rattle.cases.specs.Find.{name_of}
 use Rattle.verdicts.specs.Refused.{has_own, refusable, refused}
-use Rattle.verdicts.specs.Modes.{modes_of}
-use Rattle.verdicts.specs.Leaves.{has_modes, due}
+use Rattle.leaves_qpi.specs.Modes.{modes_of}
+use Rattle.leaves_qpi.specs.Leaves.{has_modes, due}
 
 -- Which cases it is about, by the case's line and the oracle's answer; and whether the library's answer to such a case,
 -- the last argument, is the one that is due.

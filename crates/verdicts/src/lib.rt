@@ -9,10 +9,8 @@ ghost use Rattle.verdicts.specs.Tallied.{none, tallied};
 ghost use Rattle.verdicts.specs.declared.Verdict.{Verdict};
 
 use config::QspiError;
+use leaves_qpi::{leaves, modes};
 use std::alloc::{AllocError, Global};
-
-mod leaves;
-mod modes;
 
 // What the comparison of a case found.
 #[derive(Clone, Copy, Debug, PartialEq, Eq)]

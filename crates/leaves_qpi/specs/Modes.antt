@@ -1,14 +1,9 @@
 -- The modes that a case's call runs, in their order: whether each leaves QPI (tests/oracle/README.md says what a case
 -- is).
 use Rattle.std.specs.Prelude.{Bool, true, not, cond, List, [], ◌∷◌, ◌++◌, ℕ, zero, suc, ◌+◌, ◌*◌, ◌/◌, ◌%◌, eqb, length}
-use Rattle.std.specs.Prelude.{get_or, drop, map, unwrap_or, ◌==◌, bytes_eq, codes}
-use Rattle.std.specs.List.{slice_split}
-use Rattle.cases.specs.Number.{number_of}
+use Rattle.std.specs.Prelude.{get_or, bytes_eq, codes}
+use Rattle.cases.specs.Number.{numbers_of}
 use Rattle.cases.specs.Find.{name_of}
-
--- the numbers of a case's line, after its name; 0 for a word that is none
-abbrev pub numbers_of : List ℕ → List ℕ
-numbers_of case = map (λ word. unwrap_or (number_of word) 0) (drop 1 (slice_split (λ b. b == 32) case))
 
 abbrev pub mode_name : List ℕ
 mode_name = codes "mode"

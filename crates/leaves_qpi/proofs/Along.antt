@@ -1,7 +1,7 @@
 -- The modes along a chain, record by record.
 use Rattle.std.proofs.Common.{◌≡◌, refl, ap, ◌∙◌, List, ℕ, suc, ◌+◌, ◌-◌, ◌<◌, ◌≤◌, ◌++◌, [], arith}
 use borrow.Author.Tests.{ne_eqb, eq-eqb}
-use Rattle.verdicts.specs.Modes.{record_word, record_modes, modes_along}
+use Rattle.leaves_qpi.specs.Modes.{record_word, record_modes, modes_along}
 
 module _ (numbers : List ℕ) (on before n : ℕ) where
   one_left : before < n

@@ -1,6 +1,6 @@
 use Rattle.std.proofs.Common.{◌≡◌, ◌+◌, ◌-◌, ◌/◌, ◌++◌, length}
-use Rattle.verdicts.specs.Modes.{sheet_modes, modes_along}
-use Rattle.verdicts.proofs.modes.of_sheet.Given as goal
+use Rattle.leaves_qpi.specs.Modes.{sheet_modes, modes_along}
+use Rattle.leaves_qpi.proofs.modes.of_sheet.Given as goal
 
 abbrev pub invariant-loop-before : goal.invariant-loop-before
 invariant-loop-before l =

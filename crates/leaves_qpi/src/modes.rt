@@ -1,19 +1,9 @@
 // The modes that a case's call runs.
 ghost use Rattle.std.specs.Prelude.{◌≡◌, ◌%◌, ◌≤◌, ◌+◌, ◌*◌, ◌/◌, ◌++◌, get_or, length, IfOk};
-ghost use Rattle.verdicts.specs.Modes.{numbers_of, sheet_byte, sheet_word, record_word, record_modes, first_record};
-ghost use Rattle.verdicts.specs.Modes.{sheet_modes, modes_of};
+ghost use Rattle.leaves_qpi.specs.Modes.{sheet_byte, sheet_word, record_word, record_modes, first_record};
+ghost use Rattle.leaves_qpi.specs.Modes.{sheet_modes, modes_of};
 
 use std::alloc::{AllocError, Global};
-
-// The numbers of a case's line, after its name; 0 for a word that is none.
-fn numbers(alloc: Global, case: &[u8]) -> Result<Vec<u32>, AllocError>
-    ensures { IfOk result (λ v. v.items ≡ numbers_of case.now) }
-{
-    case.split(|b| *b == b' ')
-        .skip(1)
-        .map(|word| cases::number(word).unwrap_or(0))
-        .collect(alloc)
-}
 
 // A byte of a sheet.
 fn sheet_byte(numbers: &[u32], i: usize) -> u8
@@ -93,7 +83,7 @@ pub fn of(alloc: Global, case: &[u8]) -> Result<Vec<bool>, AllocError>
     ensures { IfOk result (λ v. v.items ≡ modes_of case.now) }
 {
     let name = cases::name(case);
-    let numbers = numbers(alloc, case)?;
+    let numbers = cases::numbers(alloc, case)?;
     if name == b"mode".as_slice() {
         return vec![in alloc; numbers.get(3) != Some(&6); 1];
     }

@@ -1,8 +1,8 @@
 use Rattle.std.proofs.Common.{◌∙◌, sym, ap, ◌≡◌, ◌++◌, append_assoc, append-nil, arith, List, Bool, ◌-◌, ◌/◌}
 use Rattle.std.proofs.Common.{◌+◌, length}
-use Rattle.verdicts.specs.Modes.{record_word, record_modes, first_record, modes_along}
-use Rattle.verdicts.proofs.Along.{passed, met, behind}
-use Rattle.verdicts.proofs.modes.of_sheet.Goals as goal
+use Rattle.leaves_qpi.specs.Modes.{record_word, record_modes, first_record, modes_along}
+use Rattle.leaves_qpi.proofs.Along.{passed, met, behind}
+use Rattle.leaves_qpi.proofs.modes.of_sheet.Goals as goal
 
 pub loop-before-init : goal.loop-before-init
 loop-before-init c =

@@ -3,7 +3,7 @@
 use Rattle.std.specs.Prelude.{Bool, false, cond, ◌&&◌, ◌||◌, List, ℕ, ◌-◌, ltb, nat_le, nat_eq, length, map, drop}
 use Rattle.std.specs.Prelude.{get_or, count_by, bytes_eq, codes}
 use Rattle.std.specs.List.{starts_with, range_with_len}
-use Rattle.verdicts.specs.Modes.{mode_name, sheet_name}
+use Rattle.leaves_qpi.specs.Modes.{mode_name, sheet_name}
 
 -- calls that run modes
 unfoldable pub has_modes : List ℕ → Bool

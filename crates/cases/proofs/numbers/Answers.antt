@@ -2,7 +2,7 @@ use Rattle.std.proofs.Common.{rules, tests, ◌≡◌, ◌==◌, List, Option}
 use Rattle.std.proofs.lemmas.Iterator.{YieldsList, items_from_collect, YieldsList-from_map}
 use Rattle.std.proofs.lemmas.Iterator.Adapters.{YieldsList-from_skip}
 use Rattle.std.proofs.lemmas.Iterator.Splits.{YieldsList-from_slice_split}
-use Rattle.verdicts.proofs.modes.numbers.Goals as goal
+use Rattle.cases.proofs.numbers.Goals as goal
 
 -- what yields the same, told of an equal state
 of_equal : {S A B : Type 0} {steps : S → Option A → S → Type 0} {v : A → B} {s t : S} {ys : List B} → s ≡ t

@@ -5,9 +5,9 @@ use Rattle.std.proofs.lemmas.List.{length-map}
 use Rattle.std.proofs.lemmas.List.FromFn.{length-range_with_len}
 use Rattle.std.proofs.lemmas.Iterator.{YieldsList-from_range}
 use Rattle.std.proofs.lemmas.Iterator.Search.{all_from_yields_List}
-use Rattle.verdicts.specs.Leaves.{due_byte, due}
-use Rattle.verdicts.proofs.Due.{by_place, other_length}
-use Rattle.verdicts.proofs.leaves.is_due.Goals as goal
+use Rattle.leaves_qpi.specs.Leaves.{due_byte, due}
+use Rattle.leaves_qpi.proofs.Due.{by_place, other_length}
+use Rattle.leaves_qpi.proofs.leaves.is_due.Goals as goal
 
 pub returns-then-library-oracle : goal.returns-then-library-oracle
 returns-then-library-oracle c =

@@ -1,6 +1,6 @@
 // The answer that is due where modes leave QPI.
 ghost use Rattle.std.specs.Prelude.{◌≡◌, ◌<◌, ◌≤◌, false, length, get_or, bytes_eq};
-ghost use Rattle.verdicts.specs.Leaves.{has_modes, mode_word, modes_before, halved, due_byte, due};
+ghost use Rattle.leaves_qpi.specs.Leaves.{has_modes, mode_word, modes_before, halved, due_byte, due};
 
 // Calls that run modes.
 #[tactic(auto, unfolding(crate::specs::Leaves::has_modes))]

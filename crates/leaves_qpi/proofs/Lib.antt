@@ -1,0 +1,2 @@
+pub mod Along
+pub mod Due
