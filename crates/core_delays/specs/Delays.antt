@@ -21,6 +21,10 @@ memory_of numbers = get_or (drop 4 numbers) (get_or numbers 3 0) 0
 abbrev pub found_of : List ℕ → Checked
 found_of numbers = checked (rules_of numbers) (memory_of numbers) (words_of numbers)
 
+-- the core rate in the line of an opening: instance, ten settings, PLL and oscillator stand before it
+abbrev pub opening_rate : List ℕ → ℕ
+opening_rate numbers = get_or numbers 13 0
+
 -- those of a record, as 32 bits hold them
 unfoldable pub record_cycles : Rules → List ℕ → List ℕ
 record_cycles rules r = cond (eqb (field r 0) 5) (unwrap_or (counted (cycles rules (field r 1))) 0 ∷ []) []

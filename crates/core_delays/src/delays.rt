@@ -1,7 +1,8 @@
 // The cycles of the delay records that a case's transaction runs.
-ghost use Rattle.std.specs.Prelude.{◌≡◌, ◌++◌, Ok, IfOk, get_or, length, drop};
+ghost use Rattle.std.specs.Prelude.{◌≡◌, ◌++◌, Ok, IfOk, get_or, length, drop, eqb};
 ghost use Rattle.records.specs.Check.{checked, verdict, chain_of};
-ghost use Rattle.core_delays.specs.Delays.{rules_of, words_of, memory_of, record_cycles, chain_cycles};
+ghost use Rattle.cases.specs.Number.{numbers_of};
+ghost use Rattle.core_delays.specs.Delays.{rules_of, words_of, memory_of, opening_rate, record_cycles, chain_cycles};
 
 use records::Rules;
 use std::alloc::{AllocError, Global};
@@ -20,6 +21,14 @@ pub fn rules(numbers: &[u32]) -> Rules
     Rules::Transaction {
         core_hz: number(numbers, 2),
     }
+}
+
+// The core rate in the line of an opening is 0.
+pub fn no_core_rate(alloc: Global, case: &[u8]) -> Result<bool, AllocError>
+    ensures { IfOk result (λ b. b ≡ eqb (opening_rate (numbers_of case.now)) 0) }
+{
+    let numbers = cases::numbers(alloc, case)?;
+    Ok(number(&numbers, 13) == 0)
 }
 
 // What follows the count of words: the words of the records, and the memory's length.

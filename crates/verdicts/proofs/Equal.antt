@@ -6,6 +6,10 @@ use Rattle.cases.specs.Number.{number_of, is_hex, value_of, step, digit_of, in_3
 use Rattle.verdicts.specs.Refused.{has_own, oracles_own, refusable, refused, refused_end, refusing}
 use Rattle.leaves_qpi.specs.Modes.{record_modes, modes_along, modes_of}
 use Rattle.leaves_qpi.specs.Leaves.{has_modes, mode_word, halved, due_byte}
+use Rattle.records.specs.Rules.{cycles}
+use Rattle.records.specs.Check.{out_of_range, extents_fault, windows_fault, record_fault, records_in, along, checked}
+use Rattle.core_delays.specs.Delays.{record_cycles, chain_cycles}
+use Rattle.core_delays.specs.Due.{delay_line, digit, due_byte as delay_due_byte, due}
 use Rattle.verdicts.specs.Departures.{agreed}
 use Rattle.verdicts.specs.Judged.{judged}
 use Rattle.verdicts.specs.Laws.{SameAreEqual, EqualAreSame, ExcludedIsAgreed, HypothesesMet}
@@ -46,6 +50,8 @@ excluded_is_agreed case oracle library e = excluded_if (agreed case oracle libra
 pub hypotheses_met : HypothesesMet
 unfolding judged agreed has_own oracles_own refusable refused refused_end refusing
     number_of is_hex value_of step digit_of in_32 has_modes mode_word halved due_byte modes_of record_modes modes_along
+    cycles out_of_range extents_fault windows_fault record_fault records_in along checked
+    record_cycles chain_cycles delay_line digit delay_due_byte due
 hypotheses_met =
     record {
       none = refl;
@@ -57,4 +63,13 @@ hypotheses_met =
       qpi_leaves = refl;
       sheet_leaves = refl;
       sheet_stays = refl;
+      no_core = refl;
+      no_core_cut = refl;
+      lasts = refl;
+      halved = refl;
+      as_halved = refl;
+      longest = refl;
+      longer = refl;
+      phase_stays = refl;
+      phase_moves = refl;
     }

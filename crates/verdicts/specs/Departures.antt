@@ -1,7 +1,11 @@
 -- The agreed departures from the Rust, one row each.
-use Rattle.std.specs.Prelude.{ℕ, Bool, ◌&&◌, cond, List, [], ◌∷◌, Option, None, Some, bytes_eq}
+use Rattle.std.specs.Prelude.{ℕ, Bool, ◌&&◌, cond, List, [], ◌∷◌, ◌++◌, Option, None, Some, eqb, bytes_eq, codes}
 use Rattle.cases.specs.Find.{name_of}
-use Rattle.verdicts.specs.Refused.{has_own, refusable, refused}
+use Rattle.cases.specs.Number.{numbers_of}
+use Rattle.core_delays.specs.Delays.{opening_rate}
+use Rattle.core_delays.specs.Due as delays
+use Rattle.core_delays.specs.Due.{refused_14}
+use Rattle.verdicts.specs.Refused.{has_own, refusable, refused, open_name}
 use Rattle.leaves_qpi.specs.Modes.{modes_of}
 use Rattle.leaves_qpi.specs.Leaves.{has_modes, due}
 
@@ -27,9 +31,26 @@ leaves_qpi =
       answered = λ case oracle library. bytes_eq (due (modes_of case) oracle) library;
     }
 
+-- at core rate 0 an opening is refused by 14, where the Rust has no core rate (document 02, request 2)
+abbrev pub no_core_rate : Departure
+no_core_rate =
+    record {
+      about = λ case oracle. bytes_eq (name_of case) open_name && eqb (opening_rate (numbers_of case)) 0;
+      answered = λ case oracle library. bytes_eq library (refused_14 ++ (codes "rate 0" ++ 10 ∷ []));
+    }
+
+-- the delay records of a transaction have the cycles of the core rate, or are refused by 14, where the Rust halves the
+-- nanoseconds (request 2)
+abbrev pub lasting_delays : Departure
+lasting_delays =
+    record {
+      about = λ case oracle. bytes_eq (name_of case) (codes "transaction");
+      answered = λ case oracle library. bytes_eq (delays.due (numbers_of case) oracle) library;
+    }
+
 -- the table
 abbrev pub departures : List Departure
-departures = none_in_rust ∷ leaves_qpi ∷ []
+departures = none_in_rust ∷ leaves_qpi ∷ no_core_rate ∷ lasting_delays ∷ []
 
 -- whether the first departure that is about the case allows the answer, if there is one
 abbrev pub agreed_by : List Departure → List ℕ → List ℕ → List ℕ → Option Bool

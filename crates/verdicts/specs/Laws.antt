@@ -58,6 +58,35 @@ sheet_into mode =
     codes "sheet 60 60 1 0 0 0 0 0 0 0 1 0 0 0 1 0 0 0 2 0 0 0 7 0 0 0 " ++ mode
     ++ codes " 0 0 0 0 0 0 0 0 0 0 0 0 0 0 0 0 0 0 0 0 0 0 0 0 0 0 0 0 0 0 0 0 0 192"
 
+-- An opening at core rate 0, in one line of settings; an answer without an access, and the refusal by 14.
+abbrev opens : List ℕ
+opens = codes "open 0 0 1 0 0 0 0 0 0 0 10000000 1200000000 24000000 0 0 1 0 0"
+
+abbrev cut : List ℕ
+cut = codes "end 10 0 0 0 0" ++ 10 ∷ codes "rate 0" ++ 10 ∷ []
+
+abbrev no_core : List ℕ
+no_core = codes "end 14 0 0 0 0" ++ 10 ∷ codes "rate 0" ++ 10 ∷ []
+
+-- a delay of so many nanoseconds at a core rate, as a transaction; an entry of so many cycles; the refusal by 14
+abbrev delays : List ℕ → List ℕ → List ℕ
+delays core_hz ns = codes "transaction 1 4 " ++ core_hz ++ codes " 8 5 " ++ ns ++ codes " 0 0 0 0 0 0 0 0 0"
+
+abbrev delayed : List ℕ → List ℕ
+delayed cycles = codes "d 0000 " ++ cycles ++ 10 ∷ codes "end 0 1 0 0 0" ++ 10 ∷ []
+
+abbrev too_long : List ℕ
+too_long = codes "end 14 0 0 0 0" ++ 10 ∷ []
+
+-- A write of one byte, cut behind its first delay; and that with cycles for no delay record.
+abbrev one_byte : List ℕ
+one_byte = codes "transaction 1 6 1 8 1 0 1 0 0 0 0 0 1 1 0 1 0"
+
+abbrev begun : List ℕ → List ℕ
+begun cycles =
+    codes "r 0018 00000000" ++ 10 ∷ codes "w 0018 80008000" ++ 10 ∷ codes "d 0000 " ++ cycles ++ 10
+    ∷ codes "end 10 3 1 0 0" ++ 10 ∷ []
+
 -- What these laws ask for can be had: no departure is about a flush that the Rust answers; each row excludes a case,
 -- and nothing but what it says.
 pub record HypothesesMet : Type 0 where
@@ -70,3 +99,17 @@ pub record HypothesesMet : Type 0 where
   pub qpi_leaves : judged into_qpi kept cleared ≡ Verdict.Different
   pub sheet_leaves : judged (sheet_into (codes "4")) kept cleared ≡ Verdict.Excluded
   pub sheet_stays : judged (sheet_into (codes "6")) kept kept ≡ Verdict.Same
+  pub no_core : judged opens cut no_core ≡ Verdict.Excluded
+  pub no_core_cut : judged opens cut cut ≡ Verdict.Different
+  pub lasts : judged (delays (codes "1000000001") (codes "1")) (delayed (codes "00000000")) (delayed (codes "00000002"))
+      ≡ Verdict.Excluded
+  pub halved : judged (delays (codes "1000000001") (codes "1")) (delayed (codes "00000000")) (delayed (codes "00000000"))
+      ≡ Verdict.Different
+  pub as_halved : judged (delays (codes "1000000000") (codes "0")) (delayed (codes "00000000")) (delayed (codes "00000000"))
+      ≡ Verdict.Same
+  pub longest : judged (delays (codes "0xffffffff") (codes "1000000000")) (delayed (codes "1dcd6500"))
+      (delayed (codes "ffffffff")) ≡ Verdict.Excluded
+  pub longer : judged (delays (codes "0xffffffff") (codes "1000000001")) (delayed (codes "1dcd6500")) too_long
+      ≡ Verdict.Excluded
+  pub phase_stays : judged one_byte (begun (codes "0000000a")) (begun (codes "0000000a")) ≡ Verdict.Same
+  pub phase_moves : judged one_byte (begun (codes "0000000a")) (begun (codes "00000000")) ≡ Verdict.Different

@@ -9,6 +9,7 @@ ghost use Rattle.verdicts.specs.Tallied.{none, tallied};
 ghost use Rattle.verdicts.specs.declared.Verdict.{Verdict};
 
 use config::QspiError;
+use core_delays::{delays, due};
 use leaves_qpi::{leaves, modes};
 use std::alloc::{AllocError, Global};
 
@@ -156,6 +157,14 @@ fn agreed(
     if leaves::has_modes(name) {
         let modes = modes::of(alloc, case)?;
         return Ok(Some(leaves::is_due(&modes, oracle, library)));
+    }
+    // At core rate 0 an opening is refused by 14, where the Rust has no core rate.
+    if name == b"open".as_slice() && delays::no_core_rate(alloc, case)? {
+        return Ok(Some(library == b"end 14 0 0 0 0\nrate 0\n".as_slice()));
+    }
+    // The delay records of a transaction have the cycles of the core rate, where the Rust halves the nanoseconds.
+    if name == b"transaction".as_slice() {
+        return Ok(Some(due::answered(alloc, case, oracle, library)?));
     }
     Ok(None)
 }
