@@ -10,7 +10,7 @@
  *
  * Numbers. A call gives a number (enum qspi_number) and writes its counts (struct qspi_counts); an opening writes its
  * rate (*sck_hz) too, which is 0 unless the number is 0. For all else that was lent, there are two ways to end:
- *   refused    (3 to 9, 13) all counts are 0, and nothing is written;
+ *   refused    (3 to 9, 13, 14) all counts are 0, and nothing is written;
  *   otherwise  (0, 1, 2, 10, 11) the first 2 x entries words of the log are written, and each byte that was got is stored.
  *              All other words and bytes keep their values.
  * 10 and 11 are given at an access: where the next entry does not fit the log (10), or where it would be a read or a
@@ -22,6 +22,12 @@
  *
  * Limit. The unready poll with number `limit` in one wait ends the call with 1. Limit 0 is refused by 7. The Rust driver
  * has qspi_default_limit().
+ *
+ * Core rate. A delay in a chain is asked for in nanoseconds, and logged as the cycles that the core waits. `core_hz` is
+ * the core rate in Hz. The cycles of a delay of ns nanoseconds are the ceiling of ns x core_hz / 10^9, and so last at
+ * least ns; with core rate 0 they are 0. More than 2^32 - 1 cycles are refused by 14. The core rate is a part of an
+ * opened bus: the opening is given it, and refuses 0 by 14; each transaction on the bus is given the same. A sheet has
+ * none: a delay there has half its nanoseconds as cycles, rounded down, and a sheet never gives 14.
  *
  * What is lent. A slice is a pointer and its length, counted in elements. No pointer is null, not even with length 0, and
  * each is aligned for its type. Everything is lent for the call alone, and what a call writes (all that is not const) does
@@ -55,7 +61,8 @@ enum qspi_number {
     QSPI_LOG = 10,        /* log used up */
     QSPI_ANSWERS = 11,    /* answers used up */
     QSPI_DIVIDER = 12,    /* no divider; of qspi_actual_sck alone */
-    QSPI_SHEET = 13       /* bytes that are no sheet */
+    QSPI_SHEET = 13,      /* bytes that are no sheet */
+    QSPI_CYCLES = 14      /* core rate 0 at an opening, or a delay of more than 2^32 - 1 cycles */
 };
 
 /* The counts of a call: all 0 where it is refused. */
@@ -106,7 +113,7 @@ enum qspi_kind {
     QSPI_KIND_READ = 2,       /* window f1 f2 */
     QSPI_KIND_TRANSFER = 3,   /* reads into f1 f2, after writing f3 f4 */
     QSPI_KIND_IN_PLACE = 4,   /* window f1 f2 */
-    QSPI_KIND_DELAY = 5,      /* f1 nanoseconds: f1 / 2 cycles */
+    QSPI_KIND_DELAY = 5,      /* f1 nanoseconds: ceiling of f1 x core_hz / 10^9 cycles; in a sheet f1 / 2 */
     QSPI_KIND_FLUSH = 6,      /* 6 to 9: in a sheet only */
     QSPI_KIND_MODE = 7,       /* f1: the work mode's number */
     QSPI_KIND_QUAD_READ = 8,  /* command f1 f2, tclqv f3, margin f4 (at most 255), data f5 f6 */
@@ -126,6 +133,7 @@ enum qspi_kind {
  * Opens the bus of an instance (0 to 3): module clock, reset, dividers, control mode, transfer settings, work mode, FIFOs.
  *   qpi                          the chip has QPI
  *   pll_hz, osc_hz               the rates that the module clock and the oscillator have
+ *   core_hz                      the core rate, the one to give to each qspi_transaction on this bus
  *   freq                         target rate; taken as 100,000 to 100,000,000, the nearest rate is chosen
  *   idle_high, second_transition the SPI mode: the clock's idle level, and the transition on which data is captured
  *   master                       control mode master, else slave
@@ -133,14 +141,15 @@ enum qspi_kind {
  *   bit_mode, lsb_first          bit mode enabled; least significant bit first
  *   cs                           there is a chip-select record; without one the next three are not looked at
  *   cs_idle_high, cs_high, cs_1  its polarity, its level, and pin 1 in place of pin 0
- * Gives 8 for a work mode above 6, 3 for second_transition (SPI modes 1 and 3), 4, 5, 7, the first of these that holds;
- * at an access: 10, 11; else 0.
+ * Gives 8 for a work mode above 6, 3 for second_transition (SPI modes 1 and 3), 4, 5, 14 for core rate 0, 7, the first
+ * of these that holds; at an access: 10, 11; else 0.
  * Writes *sck_hz always: the bus's rate with 0, else 0. There is no wait: polls and longest are 0.
  */
 uint32_t qspi_open(uint32_t limit, uint32_t *log, size_t log_len, const uint32_t *answers, size_t answers_len,
-                   uint32_t instance, bool qpi, uint32_t pll_hz, uint32_t osc_hz, uint32_t freq, bool idle_high,
-                   bool second_transition, bool master, uint32_t work_mode, bool bit_mode, bool lsb_first, bool cs,
-                   bool cs_idle_high, bool cs_high, bool cs_1, uint32_t *sck_hz, struct qspi_counts *counts);
+                   uint32_t instance, bool qpi, uint32_t pll_hz, uint32_t osc_hz, uint32_t core_hz, uint32_t freq,
+                   bool idle_high, bool second_transition, bool master, uint32_t work_mode, bool bit_mode,
+                   bool lsb_first, bool cs, bool cs_idle_high, bool cs_high, bool cs_1, uint32_t *sck_hz,
+                   struct qspi_counts *counts);
 
 /*
  * Releases an instance: disables its clock and resets its module, by one change of the module clock register. An instance
@@ -223,21 +232,24 @@ uint32_t qspi_write_quad(uint32_t limit, uint32_t *log, size_t log_len, const ui
 
 /*
  * Runs a chain of records of kinds 1 to 5 (`words`, see enum qspi_kind) on the lent memory. The whole chain is tested before
- * the first access. No words: an empty transaction.
- * Gives 7; then the first fault along the chain, record by record: 8 for a kind that is none of 1 to 5 or a bad next, 9 for a
- * window outside the memory, 6 for more than QSPI_MAX_LENGTH bytes in one phase; 8 also for words_len no multiple of 8,
- * before any record; then as met at an access: 10, 11, or 1 in a wait; else 0. The first number other than 0 ends it.
+ * the first access. No words: an empty transaction. `core_hz`: the core rate that the bus was opened with. A delay of 0
+ * cycles is logged too.
+ * Gives 7; then the first fault along the chain, record by record: 8 for a kind that is none of 1 to 5 or a bad next,
+ * 14 for a delay of more than 2^32 - 1 cycles, 9 for a window outside the memory, 6 for more than QSPI_MAX_LENGTH bytes
+ * in one phase; 8 also for words_len no multiple of 8, before any record; then as met at an access: 10, 11, or 1 in a
+ * wait; else 0. The first number other than 0 ends it.
  */
-uint32_t qspi_transaction(uint32_t limit, uint32_t *log, size_t log_len, const uint32_t *answers, size_t answers_len,
-                          uint8_t *memory, size_t memory_len, const uint32_t *words, size_t words_len,
-                          struct qspi_counts *counts);
+uint32_t qspi_transaction(uint32_t limit, uint32_t core_hz, uint32_t *log, size_t log_len, const uint32_t *answers,
+                          size_t answers_len, uint8_t *memory, size_t memory_len, const uint32_t *words,
+                          size_t words_len, struct qspi_counts *counts);
 
 /*
  * Runs a whole sheet: little-endian words limit, rate, QPI (0 or 1), record count, answer count; the records, of kinds 1 to
  * 9; the answers; all bytes behind them are the memory that the chain works on.
  * Gives 13 for bytes that are no sheet (more than QSPI_SHEET_BYTES, fewer than the header or its counts need, a QPI word
  * above 1), before anything else; 7 for limit 0; 8, 9 along the chain; then as met at an access: 10, 11, or 1 in a wait; 2
- * for the work mode QPI on a chip without it; else 0. A sheet's memory is too short for 6.
+ * for the work mode QPI on a chip without it; else 0. A sheet's memory is too short for 6, and half of a delay's
+ * nanoseconds is never too many cycles for 14.
  * Writes in `bytes` only what is got into the memory; header, records and answers keep their values.
  * Needs some 72,000 bytes of stack, far more than the other calls: it copies records and answers to a buffer.
  */

@@ -25,13 +25,14 @@ fn counted(call: impl FnOnce(&mut Counts) -> u32) -> Ended {
     Ended { number, counts }
 }
 
-/// Makes a call on what it is lent and its own arguments.
+/// Makes a call on what it is lent and its own arguments. A core rate goes behind the limit.
 macro_rules! made {
-    ($f:ident, $lent:expr $(, $argument:expr)*) => {
+    ($f:ident, $lent:expr $(; $core_hz:expr)? $(, $argument:expr)*) => {
         // SAFETY: every pointer and its length are those of a slice, and what is written is lent exclusively.
         counted(|counts| unsafe {
             ffi::$f(
                 $lent.limit,
+                $($core_hz,)?
                 $lent.log.as_mut_ptr(),
                 $lent.log.len(),
                 $lent.answers.as_ptr(),
@@ -54,6 +55,8 @@ pub struct Opening {
     pub pll_hz: u32,
     /// The oscillator's rate.
     pub osc_hz: u32,
+    /// The core rate in Hz, for the delays of the bus's transactions; 0 is refused by 14.
+    pub core_hz: u32,
     /// The target rate.
     pub freq: u32,
     /// The clock idles high: SPI modes 2 and 3.
@@ -83,6 +86,7 @@ pub fn open(lent: &mut Lent, o: &Opening) -> (Ended, u32) {
         o.qpi,
         o.pll_hz,
         o.osc_hz,
+        o.core_hz,
         o.freq,
         o.idle_high,
         o.second_transition,
@@ -172,14 +176,17 @@ pub fn write_quad(lent: &mut Lent, command: &[u8], data: &[u8]) -> Ended {
     made!(qspi_write_quad, lent, command.as_ptr(), command.len(), data.as_ptr(), data.len())
 }
 
-/// Runs a chain of records, eight words each, on a memory. [`chain`](crate::chain) makes the words; any others are tested, along
-/// the whole chain, before the first access. Gives 0, 1, 6, 7, 8, 9, 10 or 11.
-pub fn transaction(lent: &mut Lent, memory: &mut [u8], words: &[u32]) -> Ended {
-    made!(qspi_transaction, lent, memory.as_mut_ptr(), memory.len(), words.as_ptr(), words.len())
+/// Runs a chain of records, eight words each, on a memory. [`chain`](crate::chain) makes the words; any others are
+/// tested, along the whole chain, before the first access. `core_hz`: the core rate in Hz, that of the bus's opening.
+/// The cycles of a delay are the ceiling of ns × `core_hz` ÷ 10⁹, and so last at least its ns nanoseconds. Gives 0, 1,
+/// 6, 7, 8, 9, 10, 11 or 14.
+pub fn transaction(lent: &mut Lent, core_hz: u32, memory: &mut [u8], words: &[u32]) -> Ended {
+    made!(qspi_transaction, lent; core_hz, memory.as_mut_ptr(), memory.len(), words.as_ptr(), words.len())
 }
 
-/// Runs a whole sheet, whose memory is at the end of its bytes. [`Sheet`](crate::Sheet) makes the bytes; any others are tested
-/// first. Gives 0, 1, 2, 7, 8, 9, 10, 11 or 13. It needs some 72,000 bytes of stack.
+/// Runs a whole sheet, whose memory is at the end of its bytes. [`Sheet`](crate::Sheet) makes the bytes; any others are
+/// tested first. The cycles of a delay are ns ÷ 2. Gives 0, 1, 2, 7, 8, 9, 10, 11 or 13. It needs some 72,000
+/// bytes of stack.
 pub fn sheet(bytes: &mut [u8], log: &mut [u32]) -> Ended {
     // SAFETY: every pointer and its length are those of a slice, and what is written is lent exclusively.
     counted(|counts| unsafe { ffi::qspi_sheet(bytes.as_mut_ptr(), bytes.len(), log.as_mut_ptr(), log.len(), counts) })

@@ -30,9 +30,10 @@ pub enum Operation {
     },
     /// Kind 4: writes a window and reads as much back in its place, by parts of 256 bytes.
     InPlace(Window),
-    /// Kind 5: a delay.
+    /// Kind 5: a delay. In a transaction its cycles are the ceiling of `ns` × core rate ÷ 10⁹, and so last at least
+    /// `ns`; more than 2³² − 1 are refused by 14. In a sheet they are `ns` ÷ 2.
     Delay {
-        /// Nanoseconds; one cycle is two.
+        /// Nanoseconds.
         ns: u32,
     },
 }

@@ -34,12 +34,14 @@ pub enum Number {
     Divider,
     /// 13: bytes that are no sheet.
     Sheet,
+    /// 14: core rate 0 at an opening, or a delay of more than 2³² − 1 cycles.
+    Delay,
     /// Any other: the library is proved to give none.
     Unknown(u32),
 }
 
 /// The numbers in order, with their meaning.
-const MEANINGS: [(Number, &str); 14] = [
+const MEANINGS: [(Number, &str); 15] = [
     (Number::Done, "done"),
     (Number::Timeout, "timeout"),
     (Number::Unsupported, "unsupported"),
@@ -54,6 +56,7 @@ const MEANINGS: [(Number, &str); 14] = [
     (Number::Answers, "answers used up"),
     (Number::Divider, "no divider"),
     (Number::Sheet, "no sheet"),
+    (Number::Delay, "core rate 0 at opening, or a delay above FFFFFFFF hex cycles"),
 ];
 
 impl Number {
@@ -72,9 +75,9 @@ impl Number {
         found.map_or("unknown", |&(_, meaning)| meaning)
     }
 
-    /// Whether it says that the call was refused before anything was done: 3 to 9, 12 and 13.
+    /// Whether it says that the call was refused before anything was done: 3 to 9, and 12 to 14.
     pub fn is_refusal(self) -> bool {
-        matches!(self.get(), 3..=9 | 12 | 13)
+        matches!(self.get(), 3..=9 | 12..=14)
     }
 }
 
@@ -143,17 +146,18 @@ mod tests {
 
     #[test]
     fn every_number_is_itself() {
-        for n in [0, 1, 2, 3, 4, 5, 6, 7, 8, 9, 10, 11, 12, 13, 14, u32::MAX] {
+        for n in [0, 1, 2, 3, 4, 5, 6, 7, 8, 9, 10, 11, 12, 13, 14, 15, u32::MAX] {
             assert_eq!(Number::from(n).get(), n);
         }
         assert_eq!(Number::from(13), Number::Sheet);
-        assert_eq!(Number::from(14), Number::Unknown(14));
+        assert_eq!(Number::from(14), Number::Delay);
+        assert_eq!(Number::from(15), Number::Unknown(15));
     }
 
     #[test]
     fn refusals() {
         let refusals: Vec<u32> = (0..20).filter(|&n| Number::from(n).is_refusal()).collect();
-        assert_eq!(refusals, [3, 4, 5, 6, 7, 8, 9, 12, 13]);
+        assert_eq!(refusals, [3, 4, 5, 6, 7, 8, 9, 12, 13, 14]);
     }
 
     #[test]

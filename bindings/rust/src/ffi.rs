@@ -17,6 +17,7 @@ unsafe extern "C" {
         qpi: bool,
         pll_hz: u32,
         osc_hz: u32,
+        core_hz: u32,
         freq: u32,
         idle_high: bool,
         second_transition: bool,
@@ -128,6 +129,7 @@ unsafe extern "C" {
     ) -> u32;
     pub fn qspi_transaction(
         limit: u32,
+        core_hz: u32,
         log: *mut u32,
         log_len: usize,
         answers: *const u32,

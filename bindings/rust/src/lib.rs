@@ -15,7 +15,7 @@
 //!
 //! Arguments that only some numbers are allowed for have types of their own ([`WorkMode`], [`Divider`], [`Opening`]).
 //! [`by_number`] has the same calls with any numbers, and there those that are no mode or divider are refused.
-//! The functions whose arguments are slices alone are the same in both.
+//! The functions that take any value of their arguments are the same in both.
 //!
 //! What each call does, and the numbers it can give, is also said in the C header, `bindings/c/qspi.h`.
 #![deny(unsafe_code)]
@@ -41,7 +41,7 @@ pub use clock::{Choice, Divider, actual_sck, select_clock};
 pub use ended::{Counts, Ended, Number};
 pub use log::{Entries, Entry, MODULE_CLOCK, Op};
 pub use opening::{
-    Config, CsConfig, CsLevel, CsPin, CtrlMode, Opened, Opening, Polarity, SpiMode, WorkMode, open, set_work_mode,
+    Bus, Config, CsConfig, CsLevel, CsPin, CtrlMode, Opened, Opening, Polarity, SpiMode, WorkMode, open, set_work_mode,
 };
 pub use sheet::{SHEET_BYTES, SHEET_LOG_WORDS, Sheet};
 

@@ -167,6 +167,8 @@ pub struct Opening {
     pub pll_hz: u32,
     /// The oscillator's rate.
     pub osc_hz: u32,
+    /// The core rate in Hz, which the opened bus keeps; 0 is refused by 14.
+    pub core_hz: u32,
     /// The configuration.
     pub config: Config,
 }
@@ -180,6 +182,7 @@ impl Opening {
             qpi: self.qpi,
             pll_hz: self.pll_hz,
             osc_hz: self.osc_hz,
+            core_hz: self.core_hz,
             freq: self.config.freq,
             idle_high: matches!(mode, SpiMode::Mode2 | SpiMode::Mode3),
             second_transition: matches!(mode, SpiMode::Mode1 | SpiMode::Mode3),
@@ -192,20 +195,47 @@ impl Opening {
     }
 }
 
+/// An opened bus: what its calls go by. It is plain data, and one that is made by hand is taken as it is.
+#[derive(Clone, Copy, Debug, PartialEq, Eq, Hash)]
+pub struct Bus {
+    /// Its rate in Hz, for the dummies of a quad read.
+    pub sck_hz: u32,
+    /// The core rate in Hz, for the delays of a transaction. At 0, which no opening takes, each has 0 cycles.
+    pub core_hz: u32,
+}
+
+impl Bus {
+    /// [`transaction`](crate::transaction) at the core rate of the bus.
+    ///
+    /// ```
+    /// let bus = qspi::Bus { sck_hz: 10_000_000, core_hz: 480_000_000 };
+    /// let words = qspi::chain(&[qspi::Operation::Delay { ns: 10 }]);
+    /// let mut log = [0; 2];
+    /// let mut lent = qspi::Lent { limit: 3, log: &mut log, answers: &[] };
+    /// let ended = bus.transaction(&mut lent, &mut [], &words);
+    /// // 4.8 cycles, rounded up.
+    /// assert_eq!(ended.log(&log).next().unwrap().value, 5);
+    /// ```
+    pub fn transaction(self, lent: &mut Lent, memory: &mut [u8], words: &[u32]) -> Ended {
+        by_number::transaction(lent, self.core_hz, memory, words)
+    }
+}
+
 /// How an opening ended.
 #[must_use = "an opening may have been refused or cut short"]
 #[derive(Clone, Copy, Debug, PartialEq, Eq, Hash)]
 pub struct Opened {
     /// Its number and counts.
     pub ended: Ended,
-    /// The rate of the bus in Hz, only with [`Number::Done`].
-    pub sck_hz: Option<u32>,
+    /// The bus, only with [`Number::Done`].
+    pub bus: Option<Bus>,
 }
 
-/// Opens a bus. Gives 0, 3, 4, 5, 7, 10 or 11.
+/// Opens a bus. Gives 0, 3, 4, 5, 7, 10, 11 or 14.
 pub fn open(lent: &mut Lent, opening: &Opening) -> Opened {
     let (ended, sck_hz) = by_number::open(lent, &opening.numbered());
-    Opened { ended, sck_hz: (ended.number == Number::Done).then_some(sck_hz) }
+    let bus = Bus { sck_hz, core_hz: opening.core_hz };
+    Opened { ended, bus: (ended.number == Number::Done).then_some(bus) }
 }
 
 /// Waits for the transfer to complete, then changes the work mode. `qpi`: the chip has QPI. Every mode other than QPI
@@ -239,12 +269,13 @@ mod tests {
             cs_config,
             ..Config::default()
         };
-        let opening = Opening { instance: 2, qpi: true, pll_hz: 1, osc_hz: 2, config };
+        let opening = Opening { instance: 2, qpi: true, pll_hz: 1, osc_hz: 2, core_hz: 3, config };
         let numbered = by_number::Opening {
             instance: 2,
             qpi: true,
             pll_hz: 1,
             osc_hz: 2,
+            core_hz: 3,
             freq: 10_000_000,
             idle_high: true,
             second_transition: false,

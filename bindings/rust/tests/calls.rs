@@ -1,12 +1,15 @@
-//! Every call once at least, with what document 01 says of it.
+//! Every call once at least, with what documents 01 and 02 say of it.
 
 use qspi::{
-    Choice, Config, CsConfig, CsLevel, CsPin, CtrlMode, Divider, Ended, Entry, Lent, Number, Opening, Operation,
+    Bus, Choice, Config, CsConfig, CsLevel, CsPin, CtrlMode, Divider, Ended, Entry, Lent, Number, Opening, Operation,
     Polarity, QuadRead, SHEET_BYTES, SHEET_LOG_WORDS, SheetOperation, SpiMode, Window, WorkMode, by_number,
 };
 
 /// What a log word holds before a call.
 const UNTOUCHED: u32 = 0x5AA5_C33C;
+
+/// The core rate of most calls.
+const CORE_HZ: u32 = 480_000_000;
 
 /// START, which a wait for the transfer's end is not ready with.
 const START: u32 = 0x8000_0000;
@@ -244,37 +247,107 @@ fn quad_write() {
 
 #[test]
 fn transaction() {
-    // Sends 1..4 as they stand, then reads into 0..3; a delay of 9 ns is 4 cycles.
+    // Sends 1..4 as they stand, then reads into 0..3; a delay of 9 ns is 4.32 cycles, rounded up.
     let words =
         qspi::chain(&[Operation::Transfer { read: window(0, 3), write: window(1, 3) }, Operation::Delay { ns: 9 }]);
     let mut memory = [5, 6, 7, 8];
-    let (end, entries) = called(3, 100, &[1; 20], |lent| qspi::transaction(lent, &mut memory, &words));
+    let (end, entries) = called(3, 100, &[1; 20], |lent| qspi::transaction(lent, CORE_HZ, &mut memory, &words));
     assert_eq!(end, "end 0 36 20 7 0");
     assert_eq!(values(&entries, 'b', 0x200), [6, 7, 8]);
-    assert_eq!(values(&entries, 'd', 0), [10, 10, 4]);
+    assert_eq!(values(&entries, 'd', 0), [10, 10, 5]);
     assert_eq!(memory, [1, 1, 1, 8]);
-    assert_eq!(called(1, 0, &[], |lent| qspi::transaction(lent, &mut [], &[])).0, "end 0 0 0 0 0");
+    assert_eq!(called(1, 0, &[], |lent| qspi::transaction(lent, CORE_HZ, &mut [], &[])).0, "end 0 0 0 0 0");
+}
+
+/// A bus of this core rate, made by hand.
+fn bus(core_hz: u32) -> Bus {
+    Bus { sck_hz: 10_000_000, core_hz }
+}
+
+/// A delay of FFFFFFFF hex cycles at 10^9 + 1 Hz, rounded up; one nanosecond more is one cycle more.
+const LONGEST_NS: u32 = 4_294_967_290;
+
+#[test]
+fn a_delay_lasts_at_least_its_nanoseconds() {
+    for (core_hz, ns, cycles) in [
+        (1_000_000_000, 1, 1),
+        (1_000_000_001, 1, 2),
+        (999_999_999, 1, 1),
+        (999_999_999, 2, 2),
+        (2, 3, 1),
+        (1, u32::MAX, 5),
+        (CORE_HZ, 1_000_000_000, CORE_HZ),
+        (CORE_HZ, 0, 0),
+        (0, u32::MAX, 0),
+        (1_000_000_000, u32::MAX, u32::MAX),
+        (u32::MAX, 1_000_000_000, u32::MAX),
+        (1_000_000_001, LONGEST_NS, u32::MAX),
+    ] {
+        let words = qspi::chain(&[Operation::Delay { ns }]);
+        let (end, entries) = called(1, 4, &[], |lent| bus(core_hz).transaction(lent, &mut [], &words));
+        assert_eq!((end.as_str(), values(&entries, 'd', 0)), ("end 0 1 0 0 0", vec![cycles]), "{core_hz} {ns}");
+    }
+}
+
+/// As papers already printed have it.
+#[test]
+fn a_delay_in_a_sheet_is_half_its_nanoseconds() {
+    let operations = [0, 1, 3, LONGEST_NS + 1, u32::MAX].map(|ns| Operation::Delay { ns }.into());
+    let sheet =
+        qspi::Sheet { limit: 1, rate: 10_000_000, qpi: false, operations: &operations, answers: &[], memory: &[] };
+    let (end, entries) = called(1, 12, &[], |lent| qspi::sheet(&mut sheet.bytes(), lent.log));
+    assert_eq!(end, "end 0 5 0 0 0");
+    assert_eq!(values(&entries, 'd', 0), [0, 0, 1, 2_147_483_645, 2_147_483_647]);
 }
 
 /// P1's clock on instance 2.
 fn opening() -> Opening {
-    Opening { instance: 2, qpi: false, pll_hz: 1_200_000_000, osc_hz: 24_000_000, config: Config::default() }
+    Opening {
+        instance: 2,
+        qpi: false,
+        pll_hz: 1_200_000_000,
+        osc_hz: 24_000_000,
+        core_hz: CORE_HZ,
+        config: Config::default(),
+    }
+}
+
+/// An opening on a log of so many words and so many zero answers: its bus, its end line, and the entries it made.
+fn opened(log_words: usize, answers: usize, opening: Opening) -> (Option<Bus>, String, Vec<Entry>) {
+    let mut bus = None;
+    let (end, entries) = called(1, log_words, &vec![0; answers], |lent| {
+        let opened = qspi::open(lent, &opening);
+        bus = opened.bus;
+        opened.ended
+    });
+    (bus, end, entries)
 }
 
 #[test]
 fn open() {
-    let mut rate = None;
-    let (end, entries) = called(1, 200, &[0; 20], |lent| {
-        let opened = qspi::open(lent, &opening());
-        rate = opened.sck_hz;
-        opened.ended
-    });
+    let (bus, end, entries) = opened(200, 20, opening());
+    assert_eq!(bus, Some(Bus { sck_hz: 10_000_000, core_hz: CORE_HZ }));
     // Thirteen changes and four delays.
-    assert_eq!((rate, end.as_str()), (Some(10_000_000), "end 0 30 13 0 0"));
+    assert_eq!(end, "end 0 30 13 0 0");
     assert_eq!(values(&entries, 'w', 0x1002), [0x110B, 0, 0x2000]);
     assert_eq!(values(&entries, 'w', 0x024), [0x1004]);
     assert_eq!(values(&entries, 'd', 0), [500, 500, 100, 100]);
     assert_eq!(values(&entries, 'w', 0x014), [0xFFFF_FFFF]);
+}
+
+/// The bus keeps the core rate that the opening was given. What the opening itself does is the same at each.
+#[test]
+fn an_opened_bus_delays_by_its_core_rate() {
+    let second = qspi::chain(&[Operation::Delay { ns: 1_000_000_000 }]);
+    let (_, _, at_another) = opened(200, 20, opening());
+    for core_hz in [1, 1_000_000_001, u32::MAX] {
+        let (bus, _, entries) = opened(200, 20, Opening { core_hz, ..opening() });
+        assert_eq!(entries, at_another);
+        let bus = bus.unwrap();
+        assert_eq!(bus.core_hz, core_hz);
+        let (_, entries) = called(1, 2, &[], |lent| bus.transaction(lent, &mut [], &second));
+        assert_eq!(values(&entries, 'd', 0), [core_hz]);
+    }
 }
 
 /// All that an opening on zero answers writes at a place.
@@ -310,15 +383,10 @@ fn each_field_of_a_configuration_arrives() {
 }
 
 #[test]
-fn an_opening_that_is_cut_has_no_rate() {
+fn an_opening_that_is_cut_has_no_bus() {
     for (log_words, answers, end) in [(58, 20, "end 10 29 13 0 0"), (200, 12, "end 11 28 12 0 0")] {
-        let mut rate = None;
-        let (ended, _) = called(1, log_words, &vec![0; answers], |lent| {
-            let opened = qspi::open(lent, &opening());
-            rate = opened.sck_hz;
-            opened.ended
-        });
-        assert_eq!((rate, ended.as_str()), (None, end));
+        let (bus, ended, _) = opened(log_words, answers, opening());
+        assert_eq!((bus, ended.as_str()), (None, end));
     }
 }
 
@@ -355,7 +423,7 @@ fn openings_refused() {
     let refused = |limit, opening: Opening| {
         refused(limit, |lent| {
             let opened = qspi::open(lent, &opening);
-            assert_eq!(opened.sck_hz, None);
+            assert_eq!(opened.bus, None);
             opened.ended
         })
     };
@@ -364,11 +432,15 @@ fn openings_refused() {
     assert_eq!(refused(1, mode(SpiMode::Mode1)), 3);
     assert_eq!(refused(1, mode(SpiMode::Mode3)), 3);
     assert_eq!(refused(1, Opening { instance: 4, ..opening() }), 4);
-    assert_eq!(refused(1, with(Config { work_mode: WorkMode::Qpi, ..Config::default() })), 5);
+    let no_qpi = with(Config { work_mode: WorkMode::Qpi, ..Config::default() });
+    assert_eq!(refused(1, no_qpi), 5);
+    assert_eq!(refused(1, Opening { core_hz: 0, ..opening() }), 14);
     assert_eq!(refused(0, opening()), 7);
-    // 3 before 4 before 7.
-    assert_eq!(refused(0, Opening { instance: 4, ..mode(SpiMode::Mode3) }), 3);
-    assert_eq!(refused(0, Opening { instance: 4, ..opening() }), 4);
+    // 3 before 4 before 5 before 14 before 7.
+    assert_eq!(refused(0, Opening { instance: 4, core_hz: 0, ..mode(SpiMode::Mode3) }), 3);
+    assert_eq!(refused(0, Opening { instance: 4, core_hz: 0, ..no_qpi }), 4);
+    assert_eq!(refused(0, Opening { core_hz: 0, ..no_qpi }), 5);
+    assert_eq!(refused(0, Opening { core_hz: 0, ..opening() }), 14);
 }
 
 #[test]
@@ -378,6 +450,7 @@ fn numbers_that_are_no_work_mode() {
         qpi: true,
         pll_hz: 1,
         osc_hz: 1,
+        core_hz: 0,
         freq: 1,
         idle_high: false,
         second_transition: true,
@@ -409,7 +482,7 @@ fn limit_0() {
     assert_eq!(refused(0, |lent| qspi::set_work_mode(lent, false, WorkMode::Qpi)), 7);
     assert_eq!(refused(0, |lent| qspi::read_quad(lent, &asked, &mut bytes)), 7);
     assert_eq!(refused(0, |lent| qspi::write_quad(lent, &[1], &[1])), 7);
-    assert_eq!(refused(0, |lent| qspi::transaction(lent, &mut bytes, &[1])), 7);
+    assert_eq!(refused(0, |lent| qspi::transaction(lent, CORE_HZ, &mut bytes, &[1])), 7);
     assert_eq!(bytes, [0xEE; 2]);
 }
 
@@ -425,8 +498,13 @@ fn lengths_above_ffffff() {
     assert_eq!(refused(1, |lent| qspi::read_quad(lent, &asked, &mut long)), 6);
     assert_eq!(refused(1, |lent| qspi::write_quad(lent, &sent, &[])), 6);
     assert_eq!(refused(1, |lent| qspi::write_quad(lent, &[], &sent)), 6);
-    let words = qspi::chain(&[Operation::Read(window(0, 0x100_0000))]);
-    assert_eq!(refused(1, |lent| qspi::transaction(lent, &mut long, &words)), 6);
+    let mut chain = |operations: &[Operation]| {
+        refused(1, |lent| qspi::transaction(lent, u32::MAX, &mut long, &qspi::chain(operations)))
+    };
+    let (read, delay) = (Operation::Read(window(0, 0x100_0000)), Operation::Delay { ns: u32::MAX });
+    assert_eq!(chain(&[read]), 6);
+    assert_eq!(chain(&[read, delay]), 6);
+    assert_eq!(chain(&[delay, read]), 14);
     assert!(long == sent);
     // FFFFFF is taken; in place, and as a quad read's command, every length is.
     assert_eq!(called(1, 0, &[], |lent| qspi::write(lent, &sent[1..])).0, "end 10 0 0 0 0");
@@ -434,14 +512,17 @@ fn lengths_above_ffffff() {
     assert_eq!(called(1, 0, &[], |lent| qspi::read_quad(lent, &asked, &mut [])).0, "end 10 0 0 0 0");
 }
 
+/// The number by which a chain on a memory of four bytes is refused: they keep their values.
+fn chain_refused(limit: u32, core_hz: u32, words: &[u32]) -> u32 {
+    let mut memory = [0xEE; 4];
+    let number = refused(limit, |lent| bus(core_hz).transaction(lent, &mut memory, words));
+    assert_eq!(memory, [0xEE; 4]);
+    number
+}
+
 #[test]
 fn chains_refused() {
-    let refused = |words: &[u32]| {
-        let mut memory = [0xEE; 4];
-        let number = refused(1, |lent| qspi::transaction(lent, &mut memory, words));
-        assert_eq!(memory, [0xEE; 4]);
-        number
-    };
+    let refused = |words: &[u32]| chain_refused(1, CORE_HZ, words);
     // No multiple of eight; kinds 0, and 6 of a sheet; a next that is its own number, or of no record.
     assert_eq!(refused(&[2, 0, 1, 0, 0, 0, 0]), 8);
     assert_eq!(refused(&[0, 0, 1, 0, 0, 0, 0, 0]), 8);
@@ -453,6 +534,26 @@ fn chains_refused() {
     assert_eq!(refused(&qspi::chain(&[Operation::Read(window(1, 4))])), 9);
     assert_eq!(refused(&qspi::chain(&[good, Operation::Write(window(5, 0))])), 9);
     assert_eq!(refused(&qspi::chain(&[good, Operation::InPlace(window(u32::MAX, 1))])), 9);
+}
+
+#[test]
+fn delays_of_too_many_cycles() {
+    let delay = |ns| Operation::Delay { ns };
+    // One cycle too many, also where only the ceiling makes it so; and the most that can be asked for.
+    for (core_hz, ns) in [(2_000_000_000, 1 << 31), (1_000_000_001, LONGEST_NS + 1), (u32::MAX, u32::MAX)] {
+        assert_eq!(chain_refused(1, core_hz, &qspi::chain(&[delay(ns)])), 14);
+    }
+    let refused = |limit, operations: &[Operation]| chain_refused(limit, 1_000_000_001, &qspi::chain(operations));
+    let (good, outside, long) = (Operation::Read(window(0, 4)), Operation::Read(window(1, 4)), delay(LONGEST_NS + 1));
+    // Nothing is done of the records before it. The first fault along the chain is told, and 7 before any.
+    assert_eq!(refused(1, &[good, delay(LONGEST_NS), long, good]), 14);
+    assert_eq!(refused(1, &[long, outside]), 14);
+    assert_eq!(refused(1, &[outside, long]), 9);
+    assert_eq!(refused(0, &[long]), 7);
+    // Its own 8 goes before it, that of a later record behind it; that of the slice before any record.
+    assert_eq!(chain_refused(1, 1_000_000_001, &long.record(1)), 8);
+    assert_eq!(chain_refused(1, 1_000_000_001, &[long.record(2), [0; 8]].concat()), 14);
+    assert_eq!(chain_refused(1, 1_000_000_001, &long.record(0)[..7]), 8);
 }
 
 #[test]

@@ -1,6 +1,8 @@
 /* Opening and release, flush and work mode. */
 #include "link.h"
 
+#include <string.h>
+
 /* What an opening is asked for. */
 struct opening {
     uint32_t instance;
@@ -10,13 +12,18 @@ struct opening {
 
 static uint32_t rate;
 
-/* Opens with P1's clock, on as many zero answers. */
-static uint32_t opened(uint32_t limit, size_t log_len, size_t answers_len, const struct opening *o) {
+/* Opens with P1's clock at a core rate, on as many zero answers. */
+static uint32_t opened_at(uint32_t core_hz, uint32_t limit, size_t log_len, size_t answers_len,
+                          const struct opening *o) {
     lend();
     rate = UINT32_MAX;
     return qspi_open(limit, log_words, log_len, zeros, answers_len, o->instance, o->qpi, 1200000000u, 24000000u,
-                     10000000u, o->idle_high, o->second_transition, o->master, o->work_mode, o->bit_mode, o->lsb_first,
-                     o->cs, o->cs_idle_high, o->cs_high, o->cs_1, &rate, &counts);
+                     core_hz, 10000000u, o->idle_high, o->second_transition, o->master, o->work_mode, o->bit_mode,
+                     o->lsb_first, o->cs, o->cs_idle_high, o->cs_high, o->cs_1, &rate, &counts);
+}
+
+static uint32_t opened(uint32_t limit, size_t log_len, size_t answers_len, const struct opening *o) {
+    return opened_at(CORE_HZ, limit, log_len, answers_len, o);
 }
 
 void test_open(void) {
@@ -79,6 +86,24 @@ void test_open_refused(void) {
         REFUSED(opened(refused[i].limit, WORDS, WORDS, &refused[i].asked), refused[i].number);
         CHECK(rate == 0);
     }
+}
+
+/* Core rate 0 is refused, after 5 and before 7. At every other an opening does the same. */
+void test_core_rate(void) {
+    static uint32_t at_another[WORDS];
+    const struct opening plain = {.instance = 2, .cs = true};
+    const struct opening four = {.instance = 4}, qpi = {.work_mode = QSPI_QPI_MODE};
+    ENDED(opened(1, WORDS, WORDS, &plain), QSPI_DONE, 30, 13, 0, 0);
+    memcpy(at_another, log_words, sizeof at_another);
+    ENDED(opened_at(1, 1, WORDS, WORDS, &plain), QSPI_DONE, 30, 13, 0, 0);
+    CHECK(rate == 10000000 && memcmp(log_words, at_another, sizeof at_another) == 0);
+    ENDED(opened_at(UINT32_MAX, 1, WORDS, WORDS, &plain), QSPI_DONE, 30, 13, 0, 0);
+    CHECK(rate == 10000000 && memcmp(log_words, at_another, sizeof at_another) == 0);
+    REFUSED(opened_at(0, 1, WORDS, WORDS, &plain), QSPI_CYCLES);
+    CHECK(rate == 0);
+    REFUSED(opened_at(0, 0, WORDS, WORDS, &plain), QSPI_CYCLES);
+    REFUSED(opened_at(0, 1, WORDS, WORDS, &qpi), QSPI_QPI);
+    REFUSED(opened_at(0, 1, WORDS, WORDS, &four), QSPI_INSTANCE);
 }
 
 void test_free(void) {

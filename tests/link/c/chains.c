@@ -3,20 +3,21 @@
 
 #include <string.h>
 
-/* Sends 1 to 3 as they stand, then reads into 0 to 2; then a delay of 9 ns, which is 4 cycles. */
+/* Sends 1 to 3 as they stand, then reads into 0 to 2; then a delay of 9 ns, which is 4.32 cycles, rounded up. */
 void test_transaction(void) {
     const uint32_t words[] = {
         QSPI_KIND_TRANSFER, 0, 3, 1, 3, 0, 0, 2,
         QSPI_KIND_DELAY, 9, 0, 0, 0, 0, 0, 0,
     };
     uint8_t memory[] = {5, 6, 7, 8};
-    ENDED(qspi_transaction(3, LOG, ones, 20, memory, sizeof memory, words, 16, &counts), QSPI_DONE, 36, 20, 7, 0);
+    ENDED(qspi_transaction(3, CORE_HZ, LOG, ones, 20, memory, sizeof memory, words, 16, &counts), QSPI_DONE, 36, 20, 7,
+          0);
     CHECK(memcmp(memory, (const uint8_t[]){1, 1, 1, 8}, sizeof memory) == 0);
     CHECK(values(QSPI_BYTE_WRITTEN, 0x200).together == (6 | 7 | 8));
-    CHECK(log_words[70] == (uint32_t)QSPI_DELAY << 16 && log_words[71] == 4);
+    CHECK(log_words[70] == (uint32_t)QSPI_DELAY << 16 && log_words[71] == 5);
     lend();
-    ENDED(qspi_transaction(3, LOG, ones, 20, memory, 0, words, 0, &counts), QSPI_DONE, 0, 0, 0, 0);
-    REFUSED(qspi_transaction(0, LOG, ones, 20, memory, sizeof memory, words, 16, &counts), QSPI_LIMIT);
+    ENDED(qspi_transaction(3, CORE_HZ, LOG, ones, 20, memory, 0, words, 0, &counts), QSPI_DONE, 0, 0, 0, 0);
+    REFUSED(qspi_transaction(0, CORE_HZ, LOG, ones, 20, memory, sizeof memory, words, 16, &counts), QSPI_LIMIT);
 }
 
 void test_chains_refused(void) {
@@ -34,10 +35,60 @@ void test_chains_refused(void) {
     };
     uint8_t memory[] = {5, 6, 7, 8};
     for (size_t i = 0; i < sizeof refused / sizeof *refused; i++) {
-        REFUSED(qspi_transaction(1, LOG, ones, WORDS, memory, 4, refused[i].words, refused[i].count, &counts),
+        REFUSED(qspi_transaction(1, CORE_HZ, LOG, ones, WORDS, memory, 4, refused[i].words, refused[i].count, &counts),
                 refused[i].number);
         CHECK(memcmp(memory, (const uint8_t[]){5, 6, 7, 8}, sizeof memory) == 0);
     }
+}
+
+/* At 10^9 + 1 Hz these are FFFFFFFF hex cycles, rounded up; one nanosecond more is one cycle more. */
+#define LONGEST_NS 4294967290u
+
+/* One delay by itself. */
+static uint32_t delayed(uint32_t core_hz, uint32_t ns) {
+    const uint32_t words[] = {QSPI_KIND_DELAY, ns, 0, 0, 0, 0, 0, 0};
+    uint8_t memory[] = {5};
+    lend();
+    return qspi_transaction(1, core_hz, LOG, ones, 0, memory, 0, words, 8, &counts);
+}
+
+/* A delay has the fewest cycles that last at least its nanoseconds; at core rate 0, which no opening takes, none. */
+void test_delays(void) {
+    const struct {
+        uint32_t core_hz, ns, cycles;
+    } delays[] = {
+        {1000000000u, 1, 1},
+        {1000000001u, 1, 2},
+        {999999999u, 2, 2},
+        {2, 3, 1},
+        {CORE_HZ, 1000000000u, CORE_HZ},
+        {CORE_HZ, 0, 0},
+        {0, UINT32_MAX, 0},
+        {1000000000u, UINT32_MAX, UINT32_MAX},
+        {1000000001u, LONGEST_NS, UINT32_MAX},
+    };
+    for (size_t i = 0; i < sizeof delays / sizeof *delays; i++) {
+        ENDED(delayed(delays[i].core_hz, delays[i].ns), QSPI_DONE, 1, 0, 0, 0);
+        CHECK(values(QSPI_DELAY, 0).count == 1 && values(QSPI_DELAY, 0).together == delays[i].cycles);
+    }
+}
+
+/* More than FFFFFFFF hex cycles, also by rounding up. The record's own 8 goes before 14, a later record's 9 behind. */
+void test_delays_refused(void) {
+    const uint32_t bad_next[] = {QSPI_KIND_DELAY, LONGEST_NS + 1, 0, 0, 0, 0, 0, 1};
+    const uint32_t chain[] = {
+        QSPI_KIND_READ, 0, 4, 0, 0, 0, 0, 2,
+        QSPI_KIND_DELAY, LONGEST_NS + 1, 0, 0, 0, 0, 0, 3,
+        QSPI_KIND_READ, 1, 4, 0, 0, 0, 0, 0,
+    };
+    uint8_t memory[] = {5, 6, 7, 8};
+    REFUSED(delayed(2000000000u, 1u << 31), QSPI_CYCLES);
+    REFUSED(delayed(1000000001u, LONGEST_NS + 1), QSPI_CYCLES);
+    REFUSED(delayed(UINT32_MAX, UINT32_MAX), QSPI_CYCLES);
+    REFUSED(qspi_transaction(1, 1000000001u, LOG, ones, WORDS, memory, 4, bad_next, 8, &counts), QSPI_CHAIN);
+    REFUSED(qspi_transaction(1, 1000000001u, LOG, ones, WORDS, memory, 4, chain, 24, &counts), QSPI_CYCLES);
+    REFUSED(qspi_transaction(1, 1000000000u, LOG, ones, WORDS, memory, 4, chain, 24, &counts), QSPI_WINDOW);
+    CHECK(memcmp(memory, (const uint8_t[]){5, 6, 7, 8}, sizeof memory) == 0);
 }
 
 /* Stores words, little-endian; gives the place behind them. */
@@ -75,6 +126,19 @@ void test_sheet(void) {
     ENDED(qspi_sheet(bytes, sizeof bytes, LOG, &counts), QSPI_DONE, 15, 8, 3, 0);
     CHECK(memcmp(log_words, sample_log, sizeof sample_log) == 0);
     CHECK(memcmp(bytes, given, sizeof bytes) == 0);
+}
+
+/* A sheet's delay has half its nanoseconds as cycles, however many they are. */
+void test_sheet_delay(void) {
+    const uint32_t words[] = {
+        1, 10000000, 0, 2, 0,
+        QSPI_KIND_DELAY, 3, 0, 0, 0, 0, 0, 2,
+        QSPI_KIND_DELAY, UINT32_MAX, 0, 0, 0, 0, 0, 0,
+    };
+    uint8_t bytes[84];
+    put(bytes, words, 21);
+    ENDED(qspi_sheet(bytes, sizeof bytes, LOG, &counts), QSPI_DONE, 2, 0, 0, 0);
+    CHECK(log_words[1] == 1 && log_words[3] == UINT32_MAX / 2);
 }
 
 void test_no_sheets(void) {

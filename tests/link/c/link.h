@@ -13,6 +13,9 @@
 
 #define WORDS 4000
 
+/* The core rate of most calls. */
+#define CORE_HZ 480000000u
+
 /* What calls are lent. */
 extern uint32_t log_words[WORDS];
 extern const uint32_t zeros[WORDS];
@@ -49,6 +52,7 @@ void test_limit(void);
 void test_open(void);
 void test_open_flags(void);
 void test_open_refused(void);
+void test_core_rate(void);
 void test_free(void);
 void test_flush(void);
 void test_mode(void);
@@ -61,7 +65,10 @@ void test_quad_write(void);
 void test_too_long(void);
 void test_transaction(void);
 void test_chains_refused(void);
+void test_delays(void);
+void test_delays_refused(void);
 void test_sheet(void);
+void test_sheet_delay(void);
 void test_no_sheets(void);
 
 #endif
