@@ -1,9 +1,10 @@
 //! The agreed departures from the Rust: cases for which another answer of the port is due than the Rust's.
 
-use crate::due::refusal;
+use crate::delays::{Delay, delayed, delays};
+use crate::due::{CORE_RATE, refusal};
 use crate::leaves::{left, words};
 
-/// What is asked: the case line, and the number of the refusal that document 01 asks for, or 0.
+/// What is asked: the case line, and the number of the refusal that is due, or 0.
 #[derive(Clone, Copy)]
 pub struct Asked<'a> {
     pub line: &'a str,
@@ -19,7 +20,12 @@ pub struct Departure {
 }
 
 /// A row each. The first that is about a case decides.
-const DEPARTURES: [Departure; 2] = [
+const DEPARTURES: [Departure; 4] = [
+    Departure {
+        name: "a core rate of 0, or a delay of too many cycles, the port refuses",
+        about: |asked| asked.refused == CORE_RATE,
+        answer: |asked, _| refusal(asked.line, asked.refused),
+    },
     Departure {
         name: "the Rust panics or has no form, the port refuses",
         about: |asked| asked.refused > 0,
@@ -29,6 +35,11 @@ const DEPARTURES: [Departure; 2] = [
         name: "a mode leaves QPI, its word for 038 has bit 31 clear",
         about: |asked| words(asked.line).contains(&true),
         answer: |asked, oracle| left(oracle, &words(asked.line)),
+    },
+    Departure {
+        name: "a delay outside a sheet, its cycles are by the core rate",
+        about: |asked| !delays(asked.line).is_empty(),
+        answer: |asked, oracle| delayed(oracle, delays(asked.line).into_iter().map(Delay::cycles)),
     },
 ];
 

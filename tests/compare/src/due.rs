@@ -1,6 +1,29 @@
-//! Which refusal document 01 asks for, read off the case line alone.
+//! Which refusal documents 01 and 02 ask for, read off the case line alone.
 
+use crate::delays::{Delay, MOST};
 use crate::numbers::{Numbers, numbers};
+
+/// A core rate of 0 at an opening, or a delay of too many cycles (document 02, request 2).
+pub const CORE_RATE: u32 = 14;
+
+/// What the records of a chain go by.
+#[derive(Clone, Copy)]
+pub enum Rules {
+    Sheet,
+    /// A transaction's, with the core rate.
+    Transaction(u64),
+}
+
+impl Rules {
+    fn highest(self) -> u64 {
+        if let Rules::Sheet = self { 9 } else { 5 }
+    }
+
+    /// Whether a record is a delay of more cycles than there can be. In a sheet none is.
+    fn too_many(self, r: &[u64]) -> bool {
+        matches!(self, Rules::Transaction(core_hz) if r[0] == 5 && Delay { ns: r[1], core_hz }.cycles() > MOST)
+    }
+}
 
 pub fn some(f: &mut Numbers, count: u64) -> Option<Vec<u64>> {
     (0..count).map(|_| f.next()).collect()
@@ -25,7 +48,7 @@ pub fn due(line: &str) -> Option<u32> {
     let (name, mut numbers) = numbers(line)?;
     let f = &mut numbers;
     match name {
-        "open" => some(f, 15).map(|f| open(&f)),
+        "open" => some(f, 16).map(|f| open(&f)),
         "sck" => some(f, 4).map(|f| if f[1] > 31 || (f[2] == 1 && f[3] > 15) { 12 } else { 0 }),
         "free" | "clock" | "dummy" => Some(0),
         "sheet" | "print" => bytes(f).map(|b| sheet(&b)),
@@ -44,8 +67,14 @@ pub fn refusal(line: &str, number: u32) -> String {
 }
 
 fn open(f: &[u64]) -> u32 {
-    let (instance, mode, work, qpi, limit) = (f[0], f[1], f[3], f[13], f[14]);
-    let rules = [(mode == 1 || mode == 3, 3), (instance > 3, 4), (work == 6 && qpi == 0, 5), (limit == 0, 7)];
+    let [instance, mode, work, core_hz, qpi, limit] = [0, 1, 3, 13, 14, 15].map(|i| f[i]);
+    let rules = [
+        (mode == 1 || mode == 3, 3),
+        (instance > 3, 4),
+        (work == 6 && qpi == 0, 5),
+        (core_hz == 0, CORE_RATE),
+        (limit == 0, 7),
+    ];
     rules.iter().find(|rule| rule.0).map_or(0, |rule| rule.1)
 }
 
@@ -64,9 +93,9 @@ fn on_a_bus(name: &str, f: &mut Numbers) -> Option<u32> {
             phases(&[buffer(f)?])
         }
         "transaction" => {
-            let count = f.next()?;
+            let (core_hz, count) = (f.next()?, f.next()?);
             let words = some(f, count)?;
-            chain(&words, 5, buffer(f)?)
+            chain(&words, Rules::Transaction(core_hz), buffer(f)?)
         }
         _ => return None,
     })
@@ -94,11 +123,11 @@ fn sheet(bytes: &[u64]) -> u32 {
         return 7;
     }
     let words: Vec<u64> = (5..5 + 8 * records as usize).map(word).collect();
-    chain(&words, 9, length - needed)
+    chain(&words, Rules::Sheet, length - needed)
 }
 
-/// The first refusal along a chain whose kinds go from 1 to `highest`.
-pub fn chain(words: &[u64], highest: u64, memory: u64) -> u32 {
+/// The first refusal along a chain.
+pub fn chain(words: &[u64], rules: Rules, memory: u64) -> u32 {
     if !words.len().is_multiple_of(8) {
         return 8;
     }
@@ -109,15 +138,16 @@ pub fn chain(words: &[u64], highest: u64, memory: u64) -> u32 {
         let r = records[at - 1];
         let next = r[7] as usize;
         let leads = next == 0 || (next > at && next <= records.len());
-        number = if leads && (1..=highest).contains(&r[0]) { record(r, memory) } else { 8 };
+        let known = leads && (1..=rules.highest()).contains(&r[0]);
+        number = if known { record(r, rules, memory) } else { 8 };
         at = next;
     }
     number
 }
 
-/// The refusal of one record's fields: 8, then 9, then 6. A transfer in place is sent by parts and the command of a quad
-/// read is cut, so their lengths are not refused.
-fn record(r: &[u64], memory: u64) -> u32 {
+/// The refusal of one record's fields: 8, then 14, then 9, then 6. A transfer in place is sent by parts and the command
+/// of a quad read is cut, so their lengths are not refused.
+fn record(r: &[u64], rules: Rules, memory: u64) -> u32 {
     let kind = r[0];
     let (windows, lengths): (&[usize], &[usize]) = match kind {
         1 | 2 => (&[1], &[2]),
@@ -129,6 +159,8 @@ fn record(r: &[u64], memory: u64) -> u32 {
     };
     if (kind == 7 && r[1] > 6) || (kind == 8 && r[4] > 255) {
         8
+    } else if rules.too_many(r) {
+        CORE_RATE
     } else if windows.iter().any(|&at| r[at] + r[at + 1] > memory) {
         9
     } else {
@@ -143,11 +175,13 @@ mod tests {
     #[test]
     fn calls() {
         for (line, number) in [
-            ("open 9 3 1 6 0 0 0 0 0 0 1 1 1 0 0 9 0", 3),
-            ("open 4 2 1 6 0 0 0 0 0 0 1 1 1 0 0 9 0", 4),
-            ("open 3 0 1 6 0 0 0 0 0 0 1 1 1 0 0 9 0", 5),
-            ("open 3 0 1 6 0 0 0 0 0 0 1 1 1 1 0 9 0", 7),
-            ("open 3 0 1 5 0 0 0 0 0 0 1 1 1 0 1 9 0", 0),
+            ("open 9 3 1 6 0 0 0 0 0 0 1 1 1 0 0 0 9 0", 3),
+            ("open 4 2 1 6 0 0 0 0 0 0 1 1 1 0 0 0 9 0", 4),
+            ("open 3 0 1 6 0 0 0 0 0 0 1 1 1 0 0 0 9 0", 5),
+            ("open 3 0 1 6 0 0 0 0 0 0 1 1 1 0 1 0 9 0", 14),
+            ("open 3 0 1 6 0 0 0 0 0 0 1 1 1 1 1 0 9 0", 7),
+            ("open 3 0 1 5 0 0 0 0 0 0 1 1 1 0 0 1 9 0", 14),
+            ("open 3 0 1 5 0 0 0 0 0 0 1 1 1 1 0 1 9 0", 0),
             ("write 0 0 0x1000000 0 0", 7),
             ("write 1 0 0x1000000 0 0", 6),
             ("read 1 0 0xFFFFFF 1 3 0", 0),
@@ -159,9 +193,11 @@ mod tests {
             ("sck 5 31 1 15", 0),
             ("sck 5 32 2 0", 12),
             ("sck 5 0 1 16", 12),
-            ("transaction 0 0 1 9 4 0 0", 7),
-            ("transaction 1 0 1 9 4 0 0", 8),
-            ("transaction 1 0 0 4 0 0", 0),
+            ("transaction 0 0 2000000000 8 5 4294967295 0 0 0 0 0 0 4 0 0", 7),
+            ("transaction 1 0 2000000000 8 5 4294967295 0 0 0 0 0 0 4 0 0", 14),
+            ("transaction 1 0 2000000000 9 5 4294967295 0 0 0 0 0 0 9 4 0 0", 8),
+            ("transaction 1 0 0 1 9 4 0 0", 8),
+            ("transaction 1 0 0 0 4 0 0", 0),
         ] {
             assert_eq!(due(line), Some(number), "{line}");
         }
@@ -180,8 +216,34 @@ mod tests {
             ("3 0 0x1000000 0x1FFFFFF 2 9 9 0", 9),
             ("5 0xFFFFFFFF 9 9 9 9 9 0", 0),
         ] {
-            let line = format!("transaction 1 0 16 {record} 0 0 0 0 0 0 0 0 0x2000000 0 0");
+            let line = format!("transaction 1 0 1000000000 16 {record} 0 0 0 0 0 0 0 0 0x2000000 0 0");
             assert_eq!(due(&line), Some(number), "{line}");
+        }
+    }
+
+    /// Chains of two records at two core rates: at the second a delay of 4294967291 ns has one cycle too many. It comes
+    /// behind its own 8 and before what a later record is refused by.
+    #[test]
+    fn delays() {
+        let late = "5 4294967291 9 9 9 9 9";
+        for (first, second, numbers) in [
+            (format!("{late} 0"), "5 0 9 9 9 9 9 0", [0, 14]),
+            (format!("{late} 2"), "5 4294967290 9 9 9 9 9 0", [0, 14]),
+            (format!("{late} 1"), "5 0 9 9 9 9 9 0", [8, 8]),
+            (format!("{late} 3"), "5 0 9 9 9 9 9 0", [8, 8]),
+            (format!("{late} 2"), "6 0 0 0 0 0 0 0", [8, 14]),
+            (format!("{late} 2"), "1 0x1FFFFFF 2 9 9 9 9 0", [9, 14]),
+            (format!("{late} 2"), "1 0 0x1000000 9 9 9 9 0", [6, 14]),
+            ("6 0 0 0 0 0 0 2".into(), "5 4294967291 9 9 9 9 9 0", [8, 8]),
+            ("1 0x1FFFFFF 2 9 9 9 9 2".into(), "5 4294967291 9 9 9 9 9 0", [9, 9]),
+            ("1 0 0x1000000 9 9 9 9 2".into(), "5 4294967291 9 9 9 9 9 0", [6, 6]),
+            ("4 0 2 9 9 9 9 2".into(), "5 4294967291 9 9 9 9 9 0", [0, 14]),
+            ("4 0 2 9 9 9 9 0".into(), "5 4294967291 9 9 9 9 9 0", [0, 0]),
+            ("5 4294967290 9 9 9 9 9 2".into(), "4 4294967291 0 9 9 9 9 0", [9, 9]),
+        ] {
+            let line = |core_hz| format!("transaction 1 0 {core_hz} 16 {first} {second} 0x2000000 0 0");
+            let lines = [1_000_000_000, 1_000_000_001].map(line);
+            assert_eq!([0, 1].map(|i| due(&lines[i])), numbers.map(Some), "{}", lines[1]);
         }
     }
 
@@ -219,6 +281,7 @@ mod tests {
             ([1, 1, 2, ALL, ALL, ALL, ALL, 0], 0),
             ([1, 2, 2, ALL, ALL, ALL, ALL, 0], 9),
             ([4, 4, 0, ALL, ALL, ALL, ALL, 0], 9),
+            ([5, ALL, ALL, ALL, ALL, ALL, ALL, 0], 0),
             ([6, ALL, ALL, ALL, ALL, ALL, ALL, 0], 0),
             ([6, 0, 0, 0, 0, 0, 0, 1], 8),
             ([7, 6, ALL, ALL, ALL, ALL, ALL, 0], 0),
@@ -240,7 +303,7 @@ mod tests {
     /// A transaction has no flush, and a sheet goes on to its second record.
     #[test]
     fn which_kinds() {
-        assert_eq!(due("transaction 1 0 8 6 0 0 0 0 0 0 0 0 0 0"), Some(8));
+        assert_eq!(due("transaction 1 0 1 8 6 0 0 0 0 0 0 0 0 0 0"), Some(8));
         let (flush, unknown) = ([6, 0, 0, 0, 0, 0, 0, 2], [10, 0, 0, 0, 0, 0, 0, 0]);
         assert_eq!(due(&sheet([1, 0, 0, 2, 0], &[flush, unknown], 0)), Some(8));
         assert_eq!(due(&sheet([1, 0, 0, 2, 0], &[flush, flush], 0)), Some(8));

@@ -1,7 +1,7 @@
 //! Every small case, by sections; README.md says what each holds.
 
 use crate::choices::{Choices, every};
-use crate::due;
+use crate::due::{self, Rules};
 use crate::generate::list;
 use crate::small::{Record, Run};
 use crate::walk::Bus;
@@ -11,6 +11,8 @@ const MEMORY: [u8; 2] = [0xA1, 0x5B];
 /// Start and length: all windows of that memory, then those that end one byte beyond it.
 const WINDOWS: [[u32; 2]; 10] = [[0, 0], [0, 1], [0, 2], [1, 0], [1, 1], [2, 0], [0, 3], [1, 2], [2, 1], [3, 0]];
 const INSIDE: usize = 6;
+/// The core rate of a transaction: 1 ns is a cycle and a half.
+const CORE: u64 = 1_500_000_000;
 /// What the fields that a kind does not use hold.
 const UNUSED: u32 = u32::MAX;
 /// Every poll of a run is answered in every way.
@@ -139,7 +141,7 @@ impl Small {
         if self.name == "transaction" {
             let [a, b] = MEMORY;
             let (limit, log) = (self.limit, self.log_words);
-            return format!("transaction {limit} {log}{} 2 2 {a} {b}{}", list(&words), list(&self.answers));
+            return format!("transaction {limit} {log} {CORE}{} 2 2 {a} {b}{}", list(&words), list(&self.answers));
         }
         let counts = [self.records.len(), self.answers.len()].map(|n| n as u32);
         let header = [self.limit as u32, self.bus.rate, u32::from(self.bus.qpi), counts[0], counts[1]];
@@ -201,8 +203,8 @@ fn small(c: &mut Choices, s: &Section) -> Small {
     let (bus, (limit, polls)) = (Bus { rate: 0, qpi }, c.pick(s.limits));
     let records = records(c, s);
     let words: Vec<u64> = records.iter().flatten().map(|&w| u64::from(w)).collect();
-    let highest = if s.name == "transaction" { 5 } else { 9 };
-    if due::chain(&words, highest, MEMORY.len() as u64) != 0 {
+    let rules = if s.name == "transaction" { Rules::Transaction(CORE) } else { Rules::Sheet };
+    if due::chain(&words, rules, MEMORY.len() as u64) != 0 {
         return Small { name: s.name, bus, limit, log_words: 2, records, answers: vec![0] };
     }
     let before = c.made();

@@ -1,5 +1,6 @@
 //! Case lines from a source of numbers.
 
+use crate::delays::MOST;
 use crate::rng::Rng;
 use crate::sheet::sheet;
 use crate::walk::{Bus, Walk, frame};
@@ -103,11 +104,12 @@ fn on_a_bus(rng: &mut Rng, name: &str) -> String {
         "flush" => (String::new(), walk.flush()),
         "mode" => (format!(" {qpi} {mode}"), walk.mode(mode, qpi == 1)),
         "transaction" => {
-            let mut words = chain(walk.rng, 5, 0, a);
+            let (mut words, core_hz) = (chain(walk.rng, 5, 0, a), core_rate(walk.rng));
+            delays(walk.rng, core_hz, &mut words);
             if walk.rng.once_in(6) {
                 damage(walk.rng, &mut words);
             }
-            (list(&words) + &one, walk.chain(&words, Bus { rate: 0, qpi: true }))
+            (format!(" {core_hz}{}{one}", list(&words)), walk.chain(&words, Bus { rate: 0, qpi: true }))
         }
         _ => {
             let (command, sent) = command(walk.rng, name == "quadread");
@@ -146,9 +148,10 @@ fn open(rng: &mut Rng) -> String {
     let near = rng.near(freq);
     let osc = rng.pick(&[24_000_000, near, near, pll, 0, u32::MAX]);
     let mut before = format!("open {} {mode} {master} {work} {bit} {lsb}", instance(rng));
+    let core_hz = core_rate(rng);
     let mut walk = Walk::new(rng);
     let limit = walk.limit;
-    write!(before, " {select} {polarity} {level} {pin} {freq} {pll} {osc} {qpi} {limit}").unwrap();
+    write!(before, " {select} {polarity} {level} {pin} {freq} {pll} {osc} {core_hz} {qpi} {limit}").unwrap();
     walk.changes(12 + select + usize::from(work == 1 && bit == 0));
     walk.delays(4);
     line(&before, walk, "")
@@ -250,6 +253,32 @@ pub fn chain(rng: &mut Rng, highest: u32, rate: u32, memory: usize) -> Vec<u32> 
         words.push(next);
     }
     words
+}
+
+fn core_rate(rng: &mut Rng) -> u32 {
+    let (any, sized) = (rng.u32(), rng.sized());
+    rng.pick(&[0, 1, 2, 999_999_999, 1_000_000_000, 1_000_000_001, u32::MAX, any, any, sized])
+}
+
+/// Makes delays of some of a transaction's records, and gives all its delays their nanoseconds.
+fn delays(rng: &mut Rng, core_hz: u32, words: &mut [u32]) {
+    let among = rng.pick(&[2, 3, 9]);
+    for r in words.chunks_exact_mut(8) {
+        if rng.once_in(among) {
+            r[0] = 5;
+        }
+        if r[0] == 5 {
+            r[1] = nanoseconds(rng, core_hz);
+        }
+    }
+}
+
+/// Those of a delay, now and then about as many as it can last, and where its cycles are a whole number.
+fn nanoseconds(rng: &mut Rng, core_hz: u32) -> u32 {
+    let most = MOST * 1_000_000_000 / u128::from(core_hz.max(1));
+    let (last, whole) = (rng.near(most.min(MOST) as u32), rng.near(1_000_000_000));
+    let (few, sized, any) = (rng.below(2000) as u32, rng.sized(), rng.u32());
+    rng.pick(&[0, 1, 2, 3, few, few, few, few, sized, sized, sized, sized, whole, last, last, any, u32::MAX])
 }
 
 /// Makes one word of a transaction's chain wrong, or its length.

@@ -60,4 +60,74 @@ mod tests {
             assert_eq!(judge(line, oracle, port), verdict, "{line}: {port}");
         }
     }
+
+    /// A phase of one byte after a delay of 3 ns and before one of 10; at 1.5 GHz they are 5 and 15 cycles.
+    #[test]
+    fn delays() {
+        let answer = |[first, phase, last, op]: [&str; 4]| {
+            let [first, phase, last] = [first, phase, last].map(|n| format!("d 0000 {n:0>8}\n"));
+            format!("{first}r 0018 00000000\nw 0018 80008000\n{phase}{op} 0008 00000000\n{last}end 0 6 2 1 0\n")
+        };
+        let rust = answer(["1", "a", "5", "r"]);
+        let excluded = Excluded("a delay outside a sheet, its cycles are by the core rate");
+        let records = "24 5 3 0 0 0 0 0 2 1 0 1 0 0 0 0 3 5 10 0 0 0 0 0 0 1 0 0";
+        for (core_hz, port, verdict) in [
+            (1_500_000_000, ["5", "a", "f", "r"], excluded),
+            (1_500_000_000, ["1", "a", "5", "r"], Different),
+            (1_500_000_000, ["4", "a", "f", "r"], Different),
+            (1_500_000_000, ["5", "a", "10", "r"], Different),
+            (1_500_000_000, ["5", "f", "f", "r"], Different),
+            (1_500_000_000, ["5", "a", "f", "w"], Different),
+            (500_000_000, ["2", "a", "5", "r"], excluded),
+            (500_000_000, ["1", "a", "5", "r"], Different),
+            (333_333_333, ["1", "a", "4", "r"], excluded),
+            (333_333_333, ["1", "a", "5", "r"], Different),
+        ] {
+            let line = format!("transaction 1 9 {core_hz} {records}");
+            assert_eq!(judge(&line, &rust, &answer(port)), verdict, "{line}: {port:?}");
+        }
+        let even = "transaction 1 9 500000000 8 5 6 0 0 0 0 0 0 0 0 0";
+        let [three, two] = ["3", "2"].map(|n| format!("d 0000 0000000{n}\nend 0 1 0 0 0\n"));
+        assert_eq!([&three, &two].map(|port| judge(even, &three, port)), [Same, Different]);
+    }
+
+    /// A sheet's delay of 3 ns is one cycle, as the Rust's.
+    #[test]
+    fn delays_of_a_sheet() {
+        let words = [1, 0, 0, 1, 0, 5, 3, 0, 0, 0, 0, 0, 0u32];
+        let bytes: Vec<String> = words.iter().flat_map(|w| w.to_le_bytes()).map(|b| b.to_string()).collect();
+        let [one, two] = ["1", "2"].map(|n| format!("d 0000 0000000{n}\nend 0 1 0 0 0\n"));
+        for name in ["sheet", "print"] {
+            let line = format!("{name} 52 52 {}", bytes.join(" "));
+            assert_eq!([&one, &two].map(|port| judge(&line, &one, port)), [Same, Different]);
+        }
+    }
+
+    /// The Rust opens and delays as ever.
+    #[test]
+    fn refused_by_14() {
+        let refused = Excluded("a core rate of 0, or a delay of too many cycles, the port refuses");
+        let before = Excluded("the Rust panics or has no form, the port refuses");
+        let open = |mode, core_hz, limit| format!("open 0 {mode} 1 0 0 0 0 0 0 0 1 1 1 {core_hz} 1 {limit} 0 0");
+        let delay = |ns, core_hz| format!("transaction 1 2 {core_hz} 8 5 {ns} 0 0 0 0 0 0 0 0 0");
+        let opened = "end 0 1 1 0 0\nrate 5\n";
+        let delayed = "d 0000 7fffffff\nend 0 1 0 0 0\n";
+        for (line, oracle, port, verdict) in [
+            (open(0, 0, 1), opened, "end 14 0 0 0 0\nrate 0\n", refused),
+            (open(0, 0, 0), opened, "end 14 0 0 0 0\nrate 0\n", refused),
+            (open(0, 0, 0), opened, "end 7 0 0 0 0\nrate 0\n", Different),
+            (open(0, 0, 1), opened, "end 14 0 0 0 0\nrate 5\n", Different),
+            (open(0, 0, 1), opened, opened, Different),
+            (open(0, 1, 1), opened, opened, Same),
+            (open(0, 1, 1), opened, "end 14 0 0 0 0\nrate 0\n", Different),
+            (open(1, 0, 1), "panic\n", "end 3 0 0 0 0\nrate 0\n", before),
+            (open(1, 0, 1), "panic\n", "end 14 0 0 0 0\nrate 0\n", Different),
+            (delay(u32::MAX, 1_000_000_001), delayed, "end 14 0 0 0 0\n", refused),
+            (delay(u32::MAX, 1_000_000_001), delayed, delayed, Different),
+            (delay(u32::MAX, 1_000_000_001), delayed, "end 14 1 0 0 0\n", Different),
+            (delay(u32::MAX, 1_000_000_000), delayed, "end 14 0 0 0 0\n", Different),
+        ] {
+            assert_eq!(judge(&line, oracle, port), verdict, "{line}: {port}");
+        }
+    }
 }

@@ -99,7 +99,7 @@ mod tests {
             ("quadwrite 1 9 1 0 0 0 0", "nyy"),
             ("quadread 1 9 100000000 0 0 80 0 1 0 0", "nyny"),
             ("quadread 1 9 100000000 0 0 0 0 1 0 0", "yny"),
-            ("transaction 1 9 8 1 0 1 0 0 0 0 0 1 0 0", ""),
+            ("transaction 1 9 5 8 1 0 1 0 0 0 0 0 1 0 0", ""),
         ] {
             let found: String = words(line).iter().map(|&left| if left { 'y' } else { 'n' }).collect();
             assert_eq!(found, due, "{line}");

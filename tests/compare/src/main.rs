@@ -4,6 +4,7 @@ mod cases;
 mod child;
 mod choices;
 mod compare;
+mod delays;
 mod departures;
 mod due;
 mod exhaustive;

@@ -21,13 +21,13 @@ enum Part {
 /// The parts of a case line by its name; a sheet's are those that its bytes hold.
 fn form(name: &str) -> &'static str {
     match name {
-        "open" => "nnnnnnnnnnnnnnnna",
+        "open" => "nnnnnnnnnnnnnnnnna",
         "free" | "flush" => "nna",
         "write" | "read" | "inplace" => "nnba",
         "transfer" | "quadwrite" => "nnbba",
         "mode" => "nnnna",
         "quadread" => "nnnbnnba",
-        "transaction" => "nnrba",
+        "transaction" => "nnnrba",
         "clock" => "nn",
         "sck" => "nnnn",
         "dummy" => "nnn",
@@ -209,9 +209,9 @@ mod tests {
     #[test]
     fn lines_are_read_back() {
         for line in [
-            "open 1 2 1 4 0 1 1 0 1 0 5000 6000 7000 1 3 20 2 0x1 0xffffffff",
+            "open 1 2 1 4 0 1 1 0 1 0 5000 6000 7000 8000 1 3 20 2 0x1 0xffffffff",
             "quadread 1 99 5 2 2 7 8 80 1 3 1 9 1 0x5",
-            "transaction 2 40 8 0x1 0x0 0x2 0x9 0x9 0x9 0x9 0x0 2 2 161 91 1 0x80000000",
+            "transaction 2 40 9000 8 0x1 0x0 0x2 0x9 0x9 0x9 0x9 0x0 2 2 161 91 1 0x80000000",
             "sheet 7 2 1 1",
         ] {
             assert_eq!(Case::read(line).unwrap().line(), line);
@@ -232,9 +232,9 @@ mod tests {
     fn shrinks() {
         let line = "write 5 400 70 3 1 2 9 9 0x5 0x6 0x7 0x8 0x80ff1234 0x9 0xa 0xb 0xc";
         assert_eq!(smallest(line, |l| l.contains("0x8")), "write 0 0 0 0 1 0x8");
-        let records = "transaction 1 90 24 1 0 2 9 9 9 9 2 5 1 9 9 9 9 9 3 2 0 1 9 9 9 9 0 2 2 161 91 0";
-        let kept = |l: &str| Case::read(l).is_some_and(|c| matches!(&c.parts[2], Part::Records(r) if r.contains(&5)));
-        assert_eq!(smallest(records, kept), "transaction 0 0 8 0x5 0x0 0x0 0x0 0x0 0x0 0x0 0x0 0 0 0");
+        let records = "transaction 1 90 7 24 1 0 2 9 9 9 9 2 5 1 9 9 9 9 9 3 2 0 1 9 9 9 9 0 2 2 161 91 0";
+        let kept = |l: &str| Case::read(l).is_some_and(|c| matches!(&c.parts[3], Part::Records(r) if r.contains(&5)));
+        assert_eq!(smallest(records, kept), "transaction 0 0 0 8 0x5 0x0 0x0 0x0 0x0 0x0 0x0 0x0 0 0 0");
     }
 
     #[test]

@@ -3,7 +3,8 @@
 use crate::cases::cases;
 use crate::child::Child;
 use crate::compare::number;
-use crate::due::due;
+use crate::delays::{Delay, MOST, delayed, delays};
+use crate::due::{CORE_RATE, due};
 use crate::generate::NAMES;
 use std::collections::{BTreeMap, BTreeSet};
 use std::sync::Arc;
@@ -78,4 +79,46 @@ fn sheets_are_mostly_run() {
     for end in ["end 0 4096 ", "end 10 4096 ", "end 0 4095 "] {
         assert!(answers.iter().any(|a| a.contains(end)), "{end}");
     }
+}
+
+/// What is due of the delay records that a transaction ran, where the Rust's value is another: half the nanoseconds.
+fn delays_run(line: &str, oracle: &str) -> Vec<Delay> {
+    let all = delays(line);
+    let halves = all.iter().map(|delay| u128::from(delay.ns / 2));
+    assert_eq!(delayed(oracle, halves), oracle, "{line}");
+    let due = delayed(oracle, all.iter().map(|delay| delay.cycles()));
+    let run = due.lines().zip(oracle.lines()).filter(|(due, given)| due != given);
+    let cycles = |line: &str| u128::from_str_radix(&line[7..], 16).unwrap();
+    run.map(|(due, _)| *all.iter().find(|delay| delay.cycles() == cycles(due)).unwrap()).collect()
+}
+
+/// Each named core rate comes up where a delay's value is not the Rust's, and chains on which several are not; delays of
+/// as many cycles as there can be, and of a whole number of them; and too many cycles.
+#[test]
+fn delays_are_reached() {
+    let lines = made_only("3000", "transaction");
+    let (mut rates, mut several, mut most, mut whole) = (BTreeSet::new(), 0, 0, 0);
+    for (line, answer) in lines.iter().zip(&answers(&lines)).filter(|(line, _)| due(line) == Some(0)) {
+        let run = delays_run(line, answer);
+        rates.extend(run.iter().map(|delay| delay.core_hz));
+        several += usize::from(run.len() > 1);
+        most += run.iter().filter(|delay| delay.cycles() == MOST).count();
+        whole += run.iter().filter(|delay| delay.ns * delay.core_hz % 1_000_000_000 == 0).count();
+    }
+    for core_hz in [0, 1, 2, 999_999_999, 1_000_000_000, 1_000_000_001, u64::from(u32::MAX)] {
+        assert!(rates.contains(&core_hz), "{core_hz}");
+    }
+    let refused = lines.iter().filter(|line| due(line) == Some(CORE_RATE)).count();
+    assert!(several > 300 && most > 30 && whole > 30 && refused > 100, "{several} {most} {whole} {refused}");
+}
+
+/// Openings at a core rate of 0: with each number that comes first, and with a limit of 0, which comes later.
+#[test]
+fn openings_at_no_core_rate_are_reached() {
+    let lines = made_only("3000", "open");
+    let at_none: Vec<&String> = lines.iter().filter(|line| line.split(' ').nth(14) == Some("0")).collect();
+    let numbers: BTreeSet<u32> = at_none.iter().map(|line| due(line).unwrap()).collect();
+    assert_eq!(numbers, BTreeSet::from([3, 4, 5, CORE_RATE]));
+    let limit_0 = |line: &&&String| due(line) == Some(CORE_RATE) && line.split(' ').nth(16) == Some("0");
+    assert!(at_none.iter().any(|line| limit_0(&line)), "{}", at_none.len());
 }

@@ -170,8 +170,9 @@ fn quadwrite(w: &mut Words, out: &mut String) -> Result<(), String> {
     Ok(())
 }
 
+/// The Rust takes no core rate; so too at an opening.
 fn transaction(w: &mut Words, out: &mut String) -> Result<(), String> {
-    let (lent, records, memory) = (Lent::read(w)?, w.list()?, w.bytes()?);
+    let (lent, _core_hz, records, memory) = (Lent::read(w)?, w.u32()?, w.list()?, w.bytes()?);
     lent.begin(w)?;
     match chain(&records, OF_TRANSACTIONS, memory.len()) {
         Some(chain) => receiving(memory, out, |m| run(&chain, true, 0, m)),
@@ -199,7 +200,7 @@ fn open(w: &mut Words, out: &mut String) -> Result<(), String> {
     o.freq = w.u32()?;
     o.pll_hz = w.u32()?;
     o.osc_hz = w.u32()?;
-    let qpi = w.flag()?;
+    let (_core_hz, qpi) = (w.u32()?, w.flag()?);
     let lent = Lent::read(w)?;
     lent.begin(w)?;
     let (how, rate) = if qpi { d13x::calls::open(&o) } else { d21x::calls::open(&o) };

@@ -133,15 +133,15 @@ fn longest_length() {
 #[test]
 fn default_opening() {
     let answers = repeated(0, 13);
-    let opened = lines(&format!("open 0 0 1 0 0 0 1 1 0 0 10000000 1200000000 24000000 1 5 60 {answers}"));
+    let opened = lines(&format!("open 0 0 1 0 0 0 1 1 0 0 10000000 1200000000 24000000 800000000 1 5 60 {answers}"));
     assert_eq!(opened[30..], ["end 0 30 13 0 0", "rate 10000000"]);
 }
 
 #[test]
 fn panics_of_an_opening() {
-    assert!(lines("open 0 1 1 0 0 0 0 0 0 0 1 1 1 1 5 60 0")[0].starts_with("panic 0 0 0 0 "));
-    assert!(lines("open 4 0 1 0 0 0 0 0 0 0 1 1 1 1 5 60 0")[0].starts_with("panic 0 0 0 0 "));
-    let qpi = lines(&format!("open 0 0 1 6 0 0 0 0 0 0 1 1 1 0 5 60 {}", repeated(0, 20)));
+    assert!(lines("open 0 1 1 0 0 0 0 0 0 0 1 1 1 9 1 5 60 0")[0].starts_with("panic 0 0 0 0 "));
+    assert!(lines("open 4 0 1 0 0 0 0 0 0 0 1 1 1 9 1 5 60 0")[0].starts_with("panic 0 0 0 0 "));
+    let qpi = lines(&format!("open 0 0 1 6 0 0 0 0 0 0 1 1 1 9 0 5 60 {}", repeated(0, 20)));
     assert!(qpi[21].starts_with("panic 21 9 0 0 "));
 }
 
@@ -176,10 +176,22 @@ fn the_largest_limit() {
     assert_eq!(last("flush 4294967295 100 2 0x80000000 0x80000000"), "end 11 2 2 2 2");
 }
 
+/// Half the nanoseconds at a delay, the clock's rate at an opening, whatever the core rate.
+#[test]
+fn no_core_rate_is_looked_at() {
+    for core in [0, 1, 1_000_000_000, u32::MAX] {
+        let delays = format!("transaction 3 8 {core} 16 5 7 0 0 0 0 0 2 5 4294967295 0 0 0 0 0 0 0 0 0");
+        assert_eq!(lines(&delays), ["d 0000 00000003", "d 0000 7fffffff", "end 0 2 0 0 0"]);
+        let opening =
+            format!("open 0 0 1 0 0 0 0 0 0 0 10000000 1200000000 24000000 {core} 1 5 60 {}", repeated(0, 13));
+        assert_eq!(last(&opening), "rate 10000000");
+    }
+}
+
 #[test]
 fn overlapping_windows() {
     // Reads into 0..2, sends 1..3 as they stand.
-    let case = planned("transaction 3", 8192, "8 3 0 2 1 2 0 0 0 3 3 1 2 3", Plan::new(&[0], 64, 9));
+    let case = planned("transaction 3", 8192, "9 8 3 0 2 1 2 0 0 0 3 3 1 2 3", Plan::new(&[0], 64, 9));
     let sent: Vec<String> = lines(&case).into_iter().filter(|l| l.starts_with('b')).collect();
     assert_eq!(sent, ["b 0200 00000002", "b 0200 00000003"]);
 }

@@ -111,13 +111,14 @@ fn open(w: &mut Words, out: &mut String) -> Result<(), String> {
     let (master, work_mode) = (w.flag()?, w.u32()?);
     let (bit_mode, lsb_first) = (w.flag()?, w.flag()?);
     let (selects, record) = (w.flag()?, [w.flag()?, w.flag()?, w.flag()?]);
-    let (freq, pll_hz, osc_hz) = (w.u32()?, w.u32()?, w.u32()?);
+    let (freq, pll_hz, osc_hz, core_hz) = (w.u32()?, w.u32()?, w.u32()?, w.u32()?);
     let (qpi, room) = (w.flag()?, Room::read(w)?);
     let asked = by_number::Opening {
         instance,
         qpi,
         pll_hz,
         osc_hz,
+        core_hz,
         freq,
         idle_high: mode >= 2,
         second_transition: mode % 2 == 1,
@@ -183,8 +184,9 @@ fn quadwrite(w: &mut Words, out: &mut String) -> Result<(), String> {
 }
 
 fn transaction(w: &mut Words, out: &mut String) -> Result<(), String> {
-    let (room, records, memory) = (Room::read(w)?, w.list()?, w.bytes()?);
-    room.receive(w, out, memory, places(&records), |lent, memory| qspi::transaction(lent, memory, &records))
+    let (room, core_hz) = (Room::read(w)?, w.u32()?);
+    let (records, memory) = (w.list()?, w.bytes()?);
+    room.receive(w, out, memory, places(&records), |lent, memory| qspi::transaction(lent, core_hz, memory, &records))
 }
 
 fn clock(w: &mut Words, out: &mut String) -> Result<(), String> {
@@ -251,7 +253,7 @@ mod tests {
 
     /// A case of each name, and the last line of its answer.
     const ONE_OF_EACH: [(&str, &str); 16] = [
-        ("open 2 0 1 0 0 0 0 0 0 0 10000000 1200000000 24000000 0 1 9 0", "rate 0"),
+        ("open 2 0 1 0 0 0 0 0 0 0 10000000 1200000000 24000000 1 0 1 9 0", "rate 0"),
         ("free 0 4 1 0xffffffff", "end 0 2 1 0 0"),
         ("write 0 10 1 0 0", "end 7 0 0 0 0"),
         ("read 1 40 1 0 8 1 1 1 1 1 1 1 1", "m 00000000 01"),
@@ -261,7 +263,7 @@ mod tests {
         ("mode 1 10 0 6 1 0", "end 2 1 1 1 0"),
         ("quadread 1 0 1 0 0 1 0 1 0 0", "end 10 0 0 0 0"),
         ("quadwrite 1 0 0 0 0 0 0", "end 10 0 0 0 0"),
-        ("transaction 1 2 1 0 0 0 0", "end 8 0 0 0 0"),
+        ("transaction 1 2 9 1 0 0 0 0", "end 8 0 0 0 0"),
         ("clock 1200000000 10000000", "clock 11 2 4 10000000"),
         ("sck 1000000 32 1 0", "sck 12 0"),
         ("dummy 100000000 81 0", "dummy 2"),
@@ -276,6 +278,19 @@ mod tests {
             assert_eq!(answer(line, &mut out), Ok(()), "{line}");
             assert!(line.starts_with(&format!("{name} ")));
             assert_eq!(out.lines().last(), Some(end), "{line}");
+        }
+    }
+
+    /// The core rate is the library's: 1 ns at 1.5 GHz, a cycle too many for 32 bits, an opening at 0.
+    #[test]
+    fn core_rates() {
+        for (line, due) in [
+            ("transaction 1 2 1500000000 8 5 1 0 0 0 0 0 0 0 0 0", "d 0000 00000002\nend 0 1 0 0 0\n"),
+            ("transaction 1 2 1000000001 8 5 4294967291 0 0 0 0 0 0 0 0 0", "end 14 0 0 0 0\n"),
+            ("open 2 0 1 0 0 0 0 0 0 0 10000000 1200000000 24000000 0 1 1 9 0", "end 14 0 0 0 0\nrate 0\n"),
+        ] {
+            let mut out = String::new();
+            assert_eq!((answer(line, &mut out), out.as_str()), (Ok(()), due), "{line}");
         }
     }
 
@@ -301,7 +316,7 @@ mod tests {
     #[test]
     fn names_and_ends() {
         let mut out = Vec::new();
-        let input = "# a comment\n\ntransaction 1 2 0 0 0 0\nflush 3 100 0\nflash 1\nclock 24000000 10000000\nsheet 19 0\nsheet 20 1 1\nprint 20 0\n";
+        let input = "# a comment\n\ntransaction 1 2 9 0 0 0 0\nflush 3 100 0\nflash 1\nclock 24000000 10000000\nsheet 19 0\nsheet 20 1 1\nprint 20 0\n";
         answer_all(input.as_bytes(), &mut out).unwrap();
         let text = String::from_utf8(out).unwrap();
         assert_eq!(

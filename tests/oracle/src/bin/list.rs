@@ -60,6 +60,8 @@ impl List {
 
 const LIMITS: [u64; 5] = [1, 2, 3, 5, 100_000];
 const LENGTHS: [usize; 10] = [0, 1, 2, 63, 64, 65, 255, 256, 257, 512];
+/// The core rate where it is not what a case is about.
+const CORE: u32 = 1_000_000_000;
 
 /// Writes, reads, transfers and in-place calls of every length, every wait ready.
 fn ready_transfers(l: &mut List) {
@@ -198,10 +200,10 @@ fn chains(l: &mut List) {
     for chain in chains {
         for unready in [&[0][..], &[0, 1, 0], &[0, 0, 2], &[2]] {
             let plan = l.plan(unready, 3);
-            l.planned("transaction 2", ENOUGH, &format!("{chain} {memory}"), &plan);
+            l.planned("transaction 2", ENOUGH, &format!("{CORE} {chain} {memory}"), &plan);
         }
         let plan = l.plan(&[0, 1], 2);
-        l.cut("transaction 3", &format!("{chain} {memory}"), &plan, &[0, 30, 44, 60], &[3, 7, 12, 20]);
+        l.cut("transaction 3", &format!("{CORE} {chain} {memory}"), &plan, &[0, 30, 44, 60], &[3, 7, 12, 20]);
     }
 }
 
@@ -266,16 +268,16 @@ fn openings(l: &mut List) {
                 let select = format!("{} {} {} {}", work % 3 % 2, instance & 1, instance >> 1, work & 1);
                 let freq = [0, 100_000, 10_000_000, 24_000_000, 50_000_000, 100_000_000, 4_000_000_000u64][work];
                 let pll = [1_200_000_000, 24_000_000, 3_200_000_031, 3_200_000_032u64][instance];
-                let head =
-                    format!("open {instance} {mode} {chip} {work} {bit} {lsb} {select} {freq} {pll} 24000000 {chip} 5");
+                let head = format!("open {instance} {mode} {chip} {work} {bit} {lsb} {select}");
+                let head = format!("{head} {freq} {pll} 24000000 {CORE} {chip} 5");
                 l.planned(&head, ENOUGH, "", &plan);
             }
         }
     }
-    let head = "open 1 0 1 1 0 1 1 1 1 1 8000000 24000000 8000000 1 1";
+    let head = format!("open 1 0 1 1 0 1 1 1 1 1 8000000 24000000 8000000 {CORE} 1 1");
     let log: Vec<usize> = (0..66).step_by(3).collect();
     let few: Vec<usize> = (0..15).collect();
-    l.cut(head, "", &plan, &log, &few);
+    l.cut(&head, "", &plan, &log, &few);
 }
 
 fn releases(l: &mut List) {
@@ -327,16 +329,96 @@ fn dummies(l: &mut List) {
     }
 }
 
-fn main() {
+/// Chains with delays, alone and between other records, one delay off the chain, at several core rates; and one cut.
+fn delays(l: &mut List) {
+    let memory = "4 4 1 2 3 4";
+    let between = "48 5 3 9 9 9 9 9 2 1 0 2 9 9 9 9 4 5 77 9 9 9 9 9 4 5 1000000 9 9 9 9 9 5 2 1 3 9 9 9 9 6 \
+                   5 2 9 9 9 9 9 0";
+    let chains = [
+        "8 5 1 9 9 9 9 9 0",
+        "8 5 1001 9 9 9 9 9 0",
+        between,
+        "32 5 0 9 9 9 9 9 2 3 0 1 2 2 9 9 3 5 999999999 9 9 9 9 9 4 4 1 2 9 9 9 9 0",
+    ];
+    for core in [0, 1, 2, 480_000_000, 999_999_999, CORE, 1_000_000_001, 1_500_000_000, u32::MAX] {
+        for chain in chains {
+            let plan = l.plan(&[0, 1], 2);
+            l.planned("transaction 3", ENOUGH, &format!("{core} {chain} {memory}"), &plan);
+        }
+    }
+    let (plan, log) = (l.plan(&[0, 1], 2), (0..90).step_by(3).collect::<Vec<usize>>());
+    l.cut("transaction 3", &format!("480000000 {between} {memory}"), &plan, &log, &[0, 5, 10, 15, 19]);
+}
+
+/// Delays of as many cycles as 32 bits hold, of nearly as many, of one more and of many more.
+fn longest_delays(l: &mut List) {
+    for (core, ns) in [
+        (999_999_999, u32::MAX),
+        (CORE, u32::MAX),
+        (1_000_000_001, 4_294_967_290),
+        (1_000_000_001, 4_294_967_291),
+        (1_000_000_001, u32::MAX),
+        (u32::MAX, 1_000_000_000),
+        (u32::MAX, 1_000_000_001),
+        (u32::MAX, u32::MAX),
+    ] {
+        l.call(&format!("transaction 1 4000 {core} 8 5 {ns} 9 9 9 9 9 0 0 0 0"));
+    }
+}
+
+/// Delays of too many cycles: with a bad next, before and behind other records that are refused or not, and off the chain.
+fn too_long_delays(l: &mut List) {
+    let [long, write, outside] = ["5 2000000000 9 9 9 9 9", "1 0 2 9 9 9 9", "1 3 2 9 9 9 9"];
+    let flush = "6 9 9 9 9 9 9";
+    let chains = [
+        format!("8 {long} 0"),
+        format!("8 {long} 1"),
+        format!("8 {long} 2"),
+        format!("9 {long} 0 9"),
+        format!("16 {long} 2 {outside} 0"),
+        format!("16 {outside} 2 {long} 0"),
+        format!("16 {long} 2 {flush} 0"),
+        format!("16 {flush} 2 {long} 0"),
+        format!("16 {long} 2 {write} 1"),
+        format!("16 {long} 2 {write} 0"),
+        format!("16 {write} 2 {long} 0"),
+        format!("24 {write} 3 {long} 0 5 7 9 9 9 9 9 0"),
+    ];
+    for chain in chains {
+        let plan = l.plan(&[0], 64);
+        l.planned("transaction 1", ENOUGH, &format!("4000000000 {chain} 4 4 1 2 3 4"), &plan);
+    }
+}
+
+/// Openings at the core rate 0, alone and with what else is refused; and at the ends of the core rates that are taken.
+fn core_rates(l: &mut List) {
+    let (rates, nine) = ("10000000 1200000000 24000000", "9 1 2 3 4 5 6 7 8 9");
+    let plan = Plan::new(&[0], 64, 11);
+    for (core, limit) in [(0, 5), (0, 0), (1, 5), (u32::MAX, 5)] {
+        l.planned(&format!("open 1 0 1 0 0 0 0 0 0 0 {rates} {core} 1 {limit}"), ENOUGH, "", &plan);
+    }
+    for limit in [5, 0] {
+        for first in ["1 1 1 0", "3 3 0 4", "4 0 1 0", "4294967295 2 1 1"] {
+            l.call(&format!("open {first} 0 0 0 0 0 0 {rates} 0 1 {limit} 60 {nine}"));
+        }
+        l.call(&format!("open 2 2 1 6 0 0 0 0 0 0 {rates} 0 0 {limit} 60 {nine}"));
+        l.call(&format!("open 2 2 1 6 0 0 0 0 0 0 {rates} 0 1 {limit} 60 {nine}"));
+    }
+}
+
+fn main() -> Result<(), String> {
     let mut l = List { cases: Vec::new(), random: Random(1) };
     let parts = [
         ready_transfers, slow_transfers, cut_transfers, modes, slow_quads, cut_quads, ready_quads, chains, openings,
-        releases, clocks, dummies, sheets,
+        releases, clocks, dummies, sheets, delays, longest_delays, too_long_delays, core_rates,
     ];
     parts.iter().for_each(|part| part(&mut l));
+    // A panic of the driver is an answer.
+    std::panic::set_hook(Box::new(|_| {}));
     for case in &l.cases {
         let mut text = String::new();
-        answer(case, &mut text).unwrap_or_else(|why| panic!("{case}: {why}"));
+        answer(case, &mut text).map_err(|why| format!("{case}: {why}"))?;
         println!("{case}\n{text}.");
     }
+    Ok(())
 }
