@@ -71,6 +71,7 @@ pub fn open(l: &mut Lent, [pll_hz, osc_hz, freq]: [u32; 3]) -> Ended {
         qpi: true,
         pll_hz,
         osc_hz,
+        core_hz: 1_000_000_000,
         freq,
         idle_high: false,
         second_transition: false,
