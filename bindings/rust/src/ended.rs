@@ -35,7 +35,7 @@ pub enum Number {
     /// 13: bytes that are no sheet.
     Sheet,
     /// 14: core rate 0 at an opening, or a delay of more than 2³² − 1 cycles.
-    Delay,
+    Cycles,
     /// Any other: the library is proved to give none.
     Unknown(u32),
 }
@@ -56,7 +56,7 @@ const MEANINGS: [(Number, &str); 15] = [
     (Number::Answers, "answers used up"),
     (Number::Divider, "no divider"),
     (Number::Sheet, "no sheet"),
-    (Number::Delay, "core rate 0 at opening, or a delay above FFFFFFFF hex cycles"),
+    (Number::Cycles, "core rate 0 at opening, or a delay above FFFFFFFF hex cycles"),
 ];
 
 impl Number {
@@ -150,7 +150,7 @@ mod tests {
             assert_eq!(Number::from(n).get(), n);
         }
         assert_eq!(Number::from(13), Number::Sheet);
-        assert_eq!(Number::from(14), Number::Delay);
+        assert_eq!(Number::from(14), Number::Cycles);
         assert_eq!(Number::from(15), Number::Unknown(15));
     }
 

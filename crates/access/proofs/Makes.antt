@@ -13,7 +13,7 @@ use Rattle.model.proofs.Advance.{skipped, ends}
 use Rattle.model.proofs.Next.{ask_next}
 use Rattle.config.specs.declared.error.QspiError.{QspiError}
 use Rattle.config.specs.declared.error.QspiError.TheVariants.{Timeout, Unsupported, SpiMode, Instance, Qpi, Length}
-use Rattle.config.specs.declared.error.QspiError.TheVariants.{Limit, Chain, Window, Log, Answers, Divider, Sheet, Delay}
+use Rattle.config.specs.declared.error.QspiError.TheVariants.{Limit, Chain, Window, Log, Answers, Divider, Sheet, Cycles}
 use Rattle.config.specs.Error.{error_number}
 use Rattle.access.specs.declared.block.RegisterBlock.{RegisterBlock}
 use Rattle.access.specs.Of.{state_of}
@@ -36,7 +36,7 @@ error_ne0 Log h = omega (arith, h)
 error_ne0 Answers h = omega (arith, h)
 error_ne0 Divider h = omega (arith, h)
 error_ne0 Sheet h = omega (arith, h)
-error_ne0 Delay h = omega (arith, h)
+error_ne0 Cycles h = omega (arith, h)
 
 pub lent_then : {b r t : RegisterBlock} → Lent b r → Lent r t → Lent b t
 lent_then d e = record { log = e.log ∙ d.log; answers = e.answers ∙ d.answers; limit = e.limit ∙ d.limit }

@@ -2,7 +2,7 @@
 use Rattle.std.proofs.Common.{◌≡◌, ℕ, false, inl, inr, refl}
 use mathlib.Core.Logic.{⊎_elim}
 use Rattle.config.specs.declared.error.QspiError.TheVariants.{Timeout, Unsupported, SpiMode, Instance, Qpi, Length}
-use Rattle.config.specs.declared.error.QspiError.TheVariants.{Limit, Chain, Window, Log, Answers, Divider, Sheet, Delay}
+use Rattle.config.specs.declared.error.QspiError.TheVariants.{Limit, Chain, Window, Log, Answers, Divider, Sheet, Cycles}
 use Rattle.config.specs.Error.{touches_nothing}
 use Rattle.config.specs.Laws.{NeverMet, OneOfTwo}
 
@@ -27,4 +27,4 @@ one_of_two Log = inr (inr (inr (inr (inl refl))))
 one_of_two Answers = inr (inr (inr (inr (inr refl))))
 one_of_two Divider = inl refl
 one_of_two Sheet = inl refl
-one_of_two Delay = inl refl
+one_of_two Cycles = inl refl

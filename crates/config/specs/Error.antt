@@ -3,7 +3,7 @@
 use Rattle.std.specs.Prelude.{ℕ, Bool, ◌&&◌, ◌||◌, nat_le, List, Result, Ok, Err, codes}
 use Rattle.config.specs.declared.error.QspiError.{QspiError}
 use Rattle.config.specs.declared.error.QspiError.TheVariants.{Timeout, Unsupported, SpiMode, Instance, Qpi, Length}
-use Rattle.config.specs.declared.error.QspiError.TheVariants.{Limit, Chain, Window, Log, Answers, Divider, Sheet, Delay}
+use Rattle.config.specs.declared.error.QspiError.TheVariants.{Limit, Chain, Window, Log, Answers, Divider, Sheet, Cycles}
 
 -- 1 to 13, and 14 of request 2
 abbrev pub error_number : QspiError → ℕ
@@ -20,7 +20,7 @@ error_number Log = 10
 error_number Answers = 11
 error_number Divider = 12
 error_number Sheet = 13
-error_number Delay = 14
+error_number Cycles = 14
 
 abbrev pub error_text : QspiError → List ℕ
 error_text Timeout = codes "timeout"
@@ -36,7 +36,7 @@ error_text Log = codes "log used up"
 error_text Answers = codes "answers used up"
 error_text Divider = codes "divider"
 error_text Sheet = codes "sheet"
-error_text Delay = codes "core rate 0 at opening, or a delay above FFFFFFFF hex cycles"
+error_text Cycles = codes "core rate 0 at opening, or a delay above FFFFFFFF hex cycles"
 
 -- 0 done, else the error's number
 abbrev pub ended_number : {T : Type 0} → Result T QspiError → ℕ

@@ -34,7 +34,7 @@ pub enum QspiError {
     // A sheet too long or too short, or its QPI word.
     Sheet = 13,
     // Core rate 0 at opening, or a delay of more cycles than 32 bits hold.
-    Delay = 14,
+    Cycles = 14,
 }
 
 impl QspiError {
@@ -72,7 +72,7 @@ impl fmt::Display for QspiError {
             QspiError::Answers => "answers used up",
             QspiError::Divider => "divider",
             QspiError::Sheet => "sheet",
-            QspiError::Delay => "core rate 0 at opening, or a delay above FFFFFFFF hex cycles",
+            QspiError::Cycles => "core rate 0 at opening, or a delay above FFFFFFFF hex cycles",
         })
     }
 }

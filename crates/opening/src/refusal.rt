@@ -30,7 +30,7 @@ pub fn refused(limit: u32, opening: Opening) -> Result<NonZeroU32, QspiError>
         return Err(QspiError::Qpi);
     }
     if opening.core_hz == 0 {
-        return Err(QspiError::Delay);
+        return Err(QspiError::Cycles);
     }
     NonZeroU32::new(limit).ok_or(QspiError::Limit)
 }

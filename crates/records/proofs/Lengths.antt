@@ -6,7 +6,7 @@ use Rattle.std.specs.List.{list_any}
 use Rattle.std.proofs.lemmas.Bool.{ltb-false, le-ltb}
 use Rattle.std.proofs.lemmas.List.{get_or-drop}
 use Rattle.config.specs.declared.error.QspiError.{QspiError}
-use Rattle.config.specs.declared.error.QspiError.TheVariants.{Chain, Delay, Window, Length}
+use Rattle.config.specs.declared.error.QspiError.TheVariants.{Chain, Cycles, Window, Length}
 use Rattle.config.specs.Error.{error_number}
 use Rattle.records.specs.declared.rules.Rules.{Rules}
 use Rattle.records.specs.declared.rules.Rules.TheVariants.{Sheet}
@@ -26,7 +26,7 @@ Which rules memory r e =
     (e ≡ Chain)
     ⊎ ((e ≡ Window)
     ⊎ (((e ≡ Length) × (outside ≡ false) × (long ≡ true))
-    ⊎ ((e ≡ Delay) × (too_many rules (field r 0) (field r 1) ≡ true))))
+    ⊎ ((e ≡ Cycles) × (too_many rules (field r 0) (field r 1) ≡ true))))
 
 record_error : (rules : Rules) (memory count own : ℕ) (r : List ℕ) (e : QspiError)
     → record_fault rules memory count own r ≡ Err e → Which rules memory r e
@@ -42,7 +42,7 @@ record_error rules memory count own r e = by _ _ _ refl _ refl _ refl
         → list_any too_long (extents_of r) ≡ d
         → ◌≡◌ {A = Result (Unit {0}) QspiError}
         (cond a (Err Chain)
-        (cond n (Err Chain) (cond c (Err Delay) (cond b (Err Window) (cond d (Err Length) (Ok tt))))))
+        (cond n (Err Chain) (cond c (Err Cycles) (cond b (Err Window) (cond d (Err Length) (Ok tt))))))
         (Err e)
         → Which rules memory r e
     by true n c o b p d q h = inl cc

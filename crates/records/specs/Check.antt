@@ -5,7 +5,7 @@ use Rattle.std.specs.Prelude.{List, [], ◌∷◌, map, length, get_or, take, dr
 use Rattle.std.specs.List.{list_any}
 use Rattle.std.specs.Simd.{first_chunks}
 use Rattle.config.specs.declared.error.QspiError.{QspiError}
-use Rattle.config.specs.declared.error.QspiError.TheVariants.{Chain, Delay, Window, Length}
+use Rattle.config.specs.declared.error.QspiError.TheVariants.{Chain, Cycles, Window, Length}
 use Rattle.config.specs.Error.{error_number}
 use Rattle.records.specs.declared.rules.Rules.{Rules}
 use Rattle.records.specs.Rules.{highest, cycles}
@@ -70,7 +70,7 @@ unfoldable pub record_fault : Rules → ℕ → ℕ → ℕ → List ℕ → Res
 record_fault rules memory count own r =
     cond (not (known (highest rules) (field r 0)) || out_of_range r) (Err Chain)
     (cond (not (next_fits own count (next_of r))) (Err Chain)
-    (cond (too_many rules (field r 0) (field r 1)) (Err Delay) (windows_fault memory r)))
+    (cond (too_many rules (field r 0) (field r 1)) (Err Cycles) (windows_fault memory r)))
 
 -- the first fault with its record (0: the slice itself), or document 01's *chain*: its records, in order
 abbrev pub Checked : Type 0

@@ -64,7 +64,7 @@ fn record_fault(
         return Err(QspiError::Chain);
     }
     if too_many(rules, r[0], r[1]) {
-        return Err(QspiError::Delay);
+        return Err(QspiError::Cycles);
     }
     kinds::windows_fault(&r, memory)
 }

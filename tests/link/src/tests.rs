@@ -91,9 +91,8 @@ fn every_function_has_a_comment() {
     }
 }
 
-/// The name of an error's constant in C: `SPI_MODE` of `SpiMode`, but `CYCLES` of `Delay`, which is an entry's op.
+/// The name of an error's constant in C: `SPI_MODE` of `SpiMode`.
 fn constant(error: &str) -> String {
-    let error = if error == "Delay" { "Cycles" } else { error };
     let mut name = String::new();
     for letter in error.chars() {
         if letter.is_uppercase() && !name.is_empty() {
