@@ -13,7 +13,8 @@ use Rattle.model.proofs.Advance.{skipped, ends}
 use Rattle.model.proofs.Next.{ask_next}
 use Rattle.config.specs.declared.error.QspiError.{QspiError}
 use Rattle.config.specs.declared.error.QspiError.TheVariants.{Timeout, Unsupported, SpiMode, Instance, Qpi, Length}
-use Rattle.config.specs.declared.error.QspiError.TheVariants.{Limit, Chain, Window, Log, Answers, Divider, Sheet, Cycles}
+use Rattle.config.specs.declared.error.QspiError.TheVariants.{Limit, Chain, Window, Log, Answers, Divider, Sheet}
+use Rattle.config.specs.declared.error.QspiError.TheVariants.{Cycles}
 use Rattle.config.specs.Error.{error_number}
 use Rattle.access.specs.declared.block.RegisterBlock.{RegisterBlock}
 use Rattle.access.specs.Of.{state_of}

@@ -2,7 +2,8 @@
 use Rattle.std.proofs.Common.{◌≡◌, ℕ, false, inl, inr, refl}
 use mathlib.Core.Logic.{⊎_elim}
 use Rattle.config.specs.declared.error.QspiError.TheVariants.{Timeout, Unsupported, SpiMode, Instance, Qpi, Length}
-use Rattle.config.specs.declared.error.QspiError.TheVariants.{Limit, Chain, Window, Log, Answers, Divider, Sheet, Cycles}
+use Rattle.config.specs.declared.error.QspiError.TheVariants.{Limit, Chain, Window, Log, Answers, Divider, Sheet}
+use Rattle.config.specs.declared.error.QspiError.TheVariants.{Cycles}
 use Rattle.config.specs.Error.{touches_nothing}
 use Rattle.config.specs.Laws.{NeverMet, OneOfTwo}
 

@@ -1,9 +1,10 @@
--- The number and words of each error, from document 01 ("How a call ends") and from 14 on document 02, and the number by
--- which a call ends.
+-- The number and words of each error, from document 01 ("How a call ends") and from 14 on document 02, and the number
+-- by which a call ends.
 use Rattle.std.specs.Prelude.{ℕ, Bool, ◌&&◌, ◌||◌, nat_le, List, Result, Ok, Err, codes}
 use Rattle.config.specs.declared.error.QspiError.{QspiError}
 use Rattle.config.specs.declared.error.QspiError.TheVariants.{Timeout, Unsupported, SpiMode, Instance, Qpi, Length}
-use Rattle.config.specs.declared.error.QspiError.TheVariants.{Limit, Chain, Window, Log, Answers, Divider, Sheet, Cycles}
+use Rattle.config.specs.declared.error.QspiError.TheVariants.{Limit, Chain, Window, Log, Answers, Divider, Sheet}
+use Rattle.config.specs.declared.error.QspiError.TheVariants.{Cycles}
 
 -- 1 to 13, and 14 of request 2
 abbrev pub error_number : QspiError → ℕ

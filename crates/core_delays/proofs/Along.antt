@@ -1,5 +1,5 @@
 -- The cycles along a chain in which nothing is found: what has been counted, and what is counted from a record on.
-use Rattle.std.proofs.Common.{◌≡◌, refl, ap, sym, ◌∙◌, ℕ, ◌+◌, ◌-◌, ◌/◌, ◌<◌, ◌≤◌, ◌++◌, List, [], ◌∷◌, length, Ok}
+use Rattle.std.proofs.Common.{◌≡◌, refl, ap, sym, ◌∙◌, ℕ, ◌/◌, ◌<◌, ◌≤◌, ◌++◌, List, [], length, Ok}
 use Rattle.std.proofs.Common.{append_assoc, append-nil, arith}
 use Rattle.records.specs.declared.rules.Rules.{Rules}
 use Rattle.records.specs.Check.{record_at, next_of, checked, verdict, chain_of}
@@ -45,9 +45,12 @@ module _ (rules : Rules) (memory : ℕ) (ws : List ℕ) where
     goes_on more =
         let others = before_others rules memory ws own on.one on.most on.fine (rw here at more) in
         let behind = chain_cycles rules (chain_of (from rules memory ws (next_of (record_at ws own)))) in
-        rw here (others.0, record {
-          one = omega (arith, others.0);
-          most = others.1;
-          fine = others.2;
-          rest = append_assoc so_far (record_cycles rules (record_at ws own)) behind ∙ (rw others.3 at on.rest);
-        })
+        rw here (
+          others.0,
+          record {
+            one = omega (arith, others.0);
+            most = others.1;
+            fine = others.2;
+            rest = append_assoc so_far (record_cycles rules (record_at ws own)) behind ∙ (rw others.3 at on.rest);
+          },
+        )

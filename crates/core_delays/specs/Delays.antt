@@ -1,6 +1,6 @@
 -- The cycles of the delay records that a case's transaction runs (document 02, request 2); tests/oracle/README.md says
 -- what a case is.
-use Rattle.std.specs.Prelude.{◌+◌, cond, List, [], ◌∷◌, ◌++◌, ℕ, eqb, get_or, take, drop, unwrap_or}
+use Rattle.std.specs.Prelude.{cond, List, [], ◌∷◌, ◌++◌, ℕ, eqb, get_or, take, drop, unwrap_or}
 use Rattle.records.specs.declared.rules.Rules.{Rules}
 use Rattle.records.specs.declared.rules.Rules.TheVariants.{Transaction}
 use Rattle.records.specs.Rules.{cycles, counted}

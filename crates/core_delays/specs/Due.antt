@@ -1,15 +1,15 @@
--- The answer that is due to a transaction: the oracle's, with the cycles that request 2 asks for in its delay records, or
--- the refusal by 14.
-use Rattle.std.specs.Prelude.{cond, not, ◌&&◌, List, [], ◌∷◌, ◌++◌, ℕ, ◌+◌, ◌-◌, ◌*◌, ◌/◌, ◌%◌, ◌^◌, ltb, nat_le, nat_eq}
-use Rattle.std.specs.Prelude.{eqb, Bool, Ok, Err, length, map, drop, get_or, count_by, codes}
+-- The answer that is due to a transaction: the oracle's, with the cycles that request 2 asks for in its delay records,
+-- or the refusal by 14.
+use Rattle.std.specs.Prelude.{cond, not, ◌&&◌, List, [], ◌∷◌, ◌++◌, ℕ, ◌+◌, ◌-◌, ◌*◌, ◌/◌, ◌%◌, ◌^◌, ltb, nat_le}
+use Rattle.std.specs.Prelude.{nat_eq, eqb, Bool, Ok, Err, length, map, drop, get_or, count_by, codes}
 use Rattle.std.specs.List.{starts_with, range_with_len}
 use Rattle.config.specs.Error.{error_number}
 use Rattle.records.specs.declared.rules.Rules.{Rules}
 use Rattle.records.specs.Check.{Checked}
 use Rattle.core_delays.specs.Delays.{rules_of, found_of, chain_cycles}
 
--- A delay record's line begins at s: a delay that does not stand directly behind a word for 018, as a phase's does. Lines
--- have sixteen bytes.
+-- A delay record's line begins at s: a delay that does not stand directly behind a word for 018, as a phase's does.
+-- Lines have sixteen bytes.
 unfoldable pub delay_line : List ℕ → ℕ → Bool
 delay_line text s =
     starts_with nat_eq (drop s text) (codes "d 0000 ")

@@ -78,7 +78,9 @@ pub fn answered(
             let due = with_cycles(alloc, &cycles, oracle)?;
             Ok(due.as_slice() == library)
         }
-        Err(fault) if fault.error == QspiError::Cycles => Ok(library == b"end 14 0 0 0 0\n".as_slice()),
+        Err(fault) if fault.error == QspiError::Cycles => Ok(
+            library == b"end 14 0 0 0 0\n".as_slice(),
+        ),
         Err(_) => Ok(oracle == library),
     }
 }

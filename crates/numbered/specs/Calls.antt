@@ -32,5 +32,6 @@ pub record CalledMode (found : Option WorkMode) (qpi : Bool) (limit : ℕ) (answ
     (log' : List ℕ) : Type 0 where
   pub state : (m : List ℕ) → state_of r log' m ≡ mode_outcome found qpi limit answers log m
 
-pub record OpensFound (found : Option Opening) (limit : ℕ) (answers log : List ℕ) (r : Opened) (log' : List ℕ) : Type 0 where
+pub record OpensFound (found : Option Opening) (limit : ℕ) (answers log : List ℕ) (r : Opened)
+    (log' : List ℕ) : Type 0 where
   pub result : (m : List ℕ) → result_of r log' m ≡ opening_outcome found limit answers log m

@@ -56,7 +56,8 @@ any_record [] = tt
 any_record (r ∷ rs) = (tt, any_record rs)
 
 -- of any words
-pub checked_holds : (Q : Checked → Type 0) (rules : Rules) (memory : ℕ) (ws : List ℕ) → Q (Ok []) → Q (Err (fault Chain 0))
+pub checked_holds : (Q : Checked → Type 0) (rules : Rules) (memory : ℕ) (ws : List ℕ)
+    → Q (Ok []) → Q (Err (fault Chain 0))
     → ((own : ℕ) (r : List ℕ) (e : QspiError)
     → record_fault rules memory (length ws / 8) own r ≡ Err e → Q (Err (fault e own)))
     → ((own : ℕ) (r : List ℕ) (c : Checked)

@@ -75,6 +75,9 @@ delays core_hz ns = codes "transaction 1 4 " ++ core_hz ++ codes " 8 5 " ++ ns +
 abbrev delayed : List ℕ → List ℕ
 delayed cycles = codes "d 0000 " ++ cycles ++ 10 ∷ codes "end 0 1 0 0 0" ++ 10 ∷ []
 
+abbrev at_once : List ℕ
+at_once = delayed (codes "00000000")
+
 abbrev too_long : List ℕ
 too_long = codes "end 14 0 0 0 0" ++ 10 ∷ []
 
@@ -101,12 +104,9 @@ pub record HypothesesMet : Type 0 where
   pub sheet_stays : judged (sheet_into (codes "6")) kept kept ≡ Verdict.Same
   pub no_core : judged opens cut no_core ≡ Verdict.Excluded
   pub no_core_cut : judged opens cut cut ≡ Verdict.Different
-  pub lasts : judged (delays (codes "1000000001") (codes "1")) (delayed (codes "00000000")) (delayed (codes "00000002"))
-      ≡ Verdict.Excluded
-  pub halved : judged (delays (codes "1000000001") (codes "1")) (delayed (codes "00000000")) (delayed (codes "00000000"))
-      ≡ Verdict.Different
-  pub as_halved : judged (delays (codes "1000000000") (codes "0")) (delayed (codes "00000000")) (delayed (codes "00000000"))
-      ≡ Verdict.Same
+  pub lasts : judged (delays (codes "1000000001") (codes "1")) at_once (delayed (codes "00000002")) ≡ Verdict.Excluded
+  pub halved : judged (delays (codes "1000000001") (codes "1")) at_once at_once ≡ Verdict.Different
+  pub as_halved : judged (delays (codes "1000000000") (codes "0")) at_once at_once ≡ Verdict.Same
   pub longest : judged (delays (codes "0xffffffff") (codes "1000000000")) (delayed (codes "1dcd6500"))
       (delayed (codes "ffffffff")) ≡ Verdict.Excluded
   pub longer : judged (delays (codes "0xffffffff") (codes "1000000001")) (delayed (codes "1dcd6500")) too_long

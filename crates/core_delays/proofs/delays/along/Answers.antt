@@ -1,4 +1,4 @@
-use Rattle.std.proofs.Common.{rules, tests, ◌∙◌, sym, refl, arith}
+use Rattle.std.proofs.Common.{◌∙◌, sym, arith}
 use Rattle.core_delays.proofs.Along.{none_at_all, begins, ends, goes_on}
 use Rattle.core_delays.proofs.delays.along.Goals as goal
 
