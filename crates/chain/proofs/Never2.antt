@@ -58,7 +58,8 @@ module _ (settings : Settings) where
   kind_supported f (suc (suc (suc (suc (suc zero))))) l h = tt
   kind_supported f (suc (suc (suc (suc (suc (suc k)))))) l h = absurd (omega arith)
 
-  chain_supported : (rs : List (List ℕ)) → Each (λ r. known 5 (field r 0) ≡ true) rs → Supported (chain_steps settings rs)
+  chain_supported : (rs : List (List ℕ)) → Each (λ r. known 5 (field r 0) ≡ true) rs
+      → Supported (chain_steps settings rs)
   unfolding chain_steps record_steps
   chain_supported [] h = tt
   chain_supported (r ∷ rs) h =
@@ -81,4 +82,5 @@ transaction_never_2 core_hz words limit answers log m =
     let found = found_in c (length m) in
     called_not (refusal limit found) (chain_steps c.settings (chain_of found))
     (chain_supported c.settings (chain_of found) (kinds_known c.settings.rules (length m) words)) limit answers log m
-    (limit_never limit (number_of (verdict found)) 2 (λ e. omega (arith, e)) (never_two c.settings.rules (length m) words))
+    (limit_never limit (number_of (verdict found)) 2 (λ e. omega (arith, e))
+    (never_two c.settings.rules (length m) words))

@@ -26,7 +26,8 @@ use Rattle.records.specs.declared.record.Record.{Record}
 use Rattle.records.specs.Record.{record_of}
 use Rattle.records.proofs.KindLaws.{fitting_cycles, stated}
 use Rattle.records.specs.declared.rules.Rules.{Rules}
-use Rattle.records.specs.Check.{record_at, next_of, Checked, fault, ahead, along, records_in, checked, verdict, chain_of}
+use Rattle.records.specs.Check.{record_at, next_of, Checked, fault, ahead}
+use Rattle.records.specs.Check.{along, records_in, checked, verdict, chain_of}
 use Rattle.records.proofs.WalkLaws.{from, whole_empty, whole_from, fine_eight, no_fault, alone, before_others}
 use Rattle.chain.specs.Chain.{record_steps, chain_steps}
 use Rattle.chain.specs.Transaction.{Request, found_in}
@@ -44,7 +45,8 @@ abbrev finds_from : Request → List ℕ → ℕ → Checked
 finds_from c m own = from c.settings.rules (length m) c.words own
 
 module _ (c : Request) where
-  pub record Running (limit : ℕ) (answers : List ℕ) (p : Progress) (log m : List ℕ) (r : Progress) (log' m' : List ℕ) (own : ℕ) : Type 0 where
+  pub record Running (limit : ℕ) (answers : List ℕ) (p : Progress) (log m : List ℕ) (r : Progress)
+      (log' m' : List ℕ) (own : ℕ) : Type 0 where
     pub same : length m' ≡ length m
     pub one : 1 ≤ own
     pub most : own ≤ length c.words / 8
@@ -69,7 +71,8 @@ module _ (c : Request) where
         let fine : verdict (finds_from c m 1) ≡ Ok tt = ap verdict (sym w) ∙ f in
         record { same = refl; one = omega arith; most = h; fine = fine; sound = few; state = rw w refl }
 
-  module _ {limit : ℕ} {answers : List ℕ} {p r : Progress} {log m log' m' : List ℕ} {own : ℕ} (on : Running limit answers p log m r log' m' own) where
+  module _ {limit : ℕ} {answers : List ℕ} {p r : Progress} {log m log' m' : List ℕ} {own : ℕ}
+      (on : Running limit answers p log m r log' m' own) where
     -- what the code makes of it is a record whose windows lie in the memory
     pub stated_on : {rec : List ℕ} → rec ≡ record_at c.words own
         → (s : Record) × (record_of rec ≡ Some s) × Fits c.settings.rules (length m') s
@@ -81,14 +84,16 @@ module _ (c : Request) where
         rw (on.same, e)
         (s.0, s.1, stated_fits c.settings.rules (length m) (record_at c.words own) s.0 s.1 cycles s.2)
 
-    module _ {rec : List ℕ} {t : Progress} {log'' m'' : List ℕ} (e : rec ≡ record_at c.words own) (d : Runs (record_steps c.settings rec) limit answers r log' m' t log'' m'') where
+    module _ {rec : List ℕ} {t : Progress} {log'' m'' : List ℕ} (e : rec ≡ record_at c.words own)
+        (d : Runs (record_steps c.settings rec) limit answers r log' m' t log'' m'') where
       -- once the record is run, what is left are the records behind it
       behind : (rs : List (List ℕ)) → chain_of (finds_from c m own) ≡ record_at c.words own ∷ rs
           → advance (steps_in c m) limit answers (state_of p log m)
           ≡ advance (chain_steps c.settings rs) limit answers (state_of t log'' m'')
       unfolding chain_steps
       behind rs q =
-          onto _ _ limit answers (state_of r log' m') (on.state ∙ ap (λ rs. advance (chain_steps c.settings rs) limit answers (state_of r log' m')) q)
+          onto _ _ limit answers (state_of r log' m')
+          (on.state ∙ ap (λ rs. advance (chain_steps c.settings rs) limit answers (state_of r log' m')) q)
           (rw e at d.state)
 
       last : next_of rec ≡ 0 → chain_of (finds_from c m own) ≡ record_at c.words own ∷ []
@@ -105,18 +110,22 @@ module _ (c : Request) where
           → Runs (steps_in c m) limit answers p log m t log'' m''
       running_stops n = record { sound = d.sound; state = sym (by (next_of rec) refl) }
         where
-          by : (k : ℕ) → next_of rec ≡ k → advance (steps_in c m) limit answers (state_of p log m) ≡ state_of t log'' m''
+          by : (k : ℕ) → next_of rec ≡ k
+              → advance (steps_in c m) limit answers (state_of p log m) ≡ state_of t log'' m''
           by zero z = behind [] (last z) ∙ skipped _ limit answers (state_of t log'' m'') n
-          by (suc k) z = behind _ (further (λ w. omega (arith, z, w))).3 ∙ skipped _ limit answers (state_of t log'' m'') n
+          by (suc k) z =
+              behind _ (further (λ w. omega (arith, z, w))).3 ∙ skipped _ limit answers (state_of t log'' m'') n
 
       pub running_ends : next_of rec ≡ 0 → Runs (steps_in c m) limit answers p log m t log'' m''
       unfolding chain_steps
-      running_ends z = record { sound = d.sound; state = sym (behind [] (last z) ∙ ended limit answers (state_of t log'' m'')) }
+      running_ends z =
+          record { sound = d.sound; state = sym (behind [] (last z) ∙ ended limit answers (state_of t log'' m'')) }
 
       pub running_less : (next_of rec ≡ 0 → ⊥) → length c.words / 8 - next_of rec < length c.words / 8 - own
       running_less n = let f = further n in omega (arith, f.0, f.1)
 
-      pub running_on : (next_of rec ≡ 0 → ⊥) → length m'' ≡ length m' → Running limit answers p log m t log'' m'' (next_of rec)
+      pub running_on : (next_of rec ≡ 0 → ⊥) → length m'' ≡ length m'
+          → Running limit answers p log m t log'' m'' (next_of rec)
       running_on n l =
           let f = further n in
           record {
@@ -144,8 +153,8 @@ module _ (c : Request) where
       → RunningOn b m b m 1
   starts_on b m f h = record { lent = lent_same b; runs = running_starts c f h b.sound }
 
-  pub made_on : {b r : RegisterBlock} {m m' rec : List ℕ} {own : ℕ} → RunningOn b m r m' own → rec ≡ record_at c.words own
-      → (s : Record) × (record_of rec ≡ Some s) × Fits c.settings.rules (length m') s
+  pub made_on : {b r : RegisterBlock} {m m' rec : List ℕ} {own : ℕ} → RunningOn b m r m' own
+      → rec ≡ record_at c.words own → (s : Record) × (record_of rec ≡ Some s) × Fits c.settings.rules (length m') s
   made_on on e = stated_on c on.runs e
 
   module _ {b r : RegisterBlock} {m m' : List ℕ} {own : ℕ} (on : RunningOn b m r m' own) {rec : List ℕ}
@@ -176,7 +185,8 @@ module _ (c : Request) where
         → length c.words / 8 - next_of rec < length c.words / 8 - own
     less_on d n = running_less c on.runs e (ran d) n
 
-    pub goes_further : GoesOn (steps_of c.settings s) r m' t m'' (Ok tt) → (next_of rec ≡ 0 → ⊥) → length m'' ≡ length m'
+    pub goes_further : GoesOn (steps_of c.settings s) r m' t m'' (Ok tt)
+        → (next_of rec ≡ 0 → ⊥) → length m'' ≡ length m'
         → RunningOn b m t m'' (next_of rec)
     goes_further d n l =
         record {

@@ -37,7 +37,8 @@ FirstRecords =
 abbrev pub PollsAtMost : ℕ → (List ℕ → ℕ) → Type 0
 PollsAtMost kind waits =
     (c : Request) (limit : ℕ) (answers log m : List ℕ) (before : List (List ℕ)) (r : List ℕ) → field r 0 ≡ kind
-    → (reached c limit answers log m (before ++ (r ∷ []))).tally.polls ≤ (reached c limit answers log m before).tally.polls + limit * waits r
+    → (reached c limit answers log m (before ++ (r ∷ []))).tally.polls
+    ≤ (reached c limit answers log m before).tally.polls + limit * waits r
 
 -- what a write of n bytes waits, a read, and a mode
 abbrev pub of_write : ℕ → ℕ

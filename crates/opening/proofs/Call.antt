@@ -44,7 +44,8 @@ accepted o limit r z =
     by false false rest e h = let i : o.instance ≤ 3 = ltb-false _ _ e in omega arith
 
 -- The steps and the rate of the clock that the code has chosen.
-module _ (o : Opening) {target hz : ℕ} {c : Choice} (t : target ≡ clamped o.config.freq) (e : c ≡ choice o.clock_tree.pll_fra0 target)
+module _ (o : Opening) {target hz : ℕ} {c : Choice} (t : target ≡ clamped o.config.freq)
+    (e : c ≡ choice o.clock_tree.pll_fra0 target)
     (h : hz ≡ (sck o.clock_tree.pll_fra0 c.mod_div c.divider).hz) where
   chosen_steps : opening_steps o.instance c.mod_div c.divider hz o.clock_tree.osc_24m o.config ≡ steps_of o
   unfolding steps_of

@@ -11,15 +11,19 @@ use Rattle.model.specs.State.{room_of, ran, onward, advance, called}
 use Rattle.model.proofs.Called.{refusal_not_met}
 use Rattle.clock.specs.Candidate.{factor_at}
 use Rattle.clock.specs.Rank.{rank_by, lowest_by, chosen_by}
-use Rattle.configure.specs.Steps.{enable_module_clock, clock_divider, controller_clock, controller_on, chip_select, transfer_format, transfer_config, bus_mode, configure_work_mode, register_steps, fifo_steps}
+use Rattle.configure.specs.Steps.{enable_module_clock, clock_divider, controller_clock, controller_on}
+use Rattle.configure.specs.Steps.{chip_select, transfer_format, transfer_config, bus_mode}
+use Rattle.configure.specs.Steps.{configure_work_mode, register_steps, fifo_steps}
 use Rattle.opening.specs.Steps.{opening_steps, release_steps}
 use Rattle.opening.specs.Call.{opening_refusal, steps_of, opens, releases}
 use Rattle.opening.specs.Settled.{end_of, log_of, released_log, Settled, HypothesesMet}
 
 pub settled : Settled
-unfolding end_of log_of released_log set_field head_of value_of answer_of answers_of words stored plus tally_event tally_of then change entered answered run room_of ran
-    onward advance called factor_at rank_by lowest_by chosen_by enable_module_clock clock_divider controller_clock controller_on chip_select transfer_format transfer_config bus_mode
-    configure_work_mode register_steps fifo_steps opening_steps release_steps opening_refusal steps_of opens releases
+unfolding end_of log_of released_log set_field head_of value_of answer_of answers_of words stored plus tally_event
+    tally_of then change entered answered run room_of ran onward advance called factor_at rank_by lowest_by chosen_by
+    enable_module_clock clock_divider controller_clock controller_on chip_select transfer_format transfer_config
+    bus_mode configure_work_mode register_steps fifo_steps opening_steps release_steps opening_refusal steps_of opens
+    releases
 settled =
     record {
       default_log = refl;
@@ -41,9 +45,10 @@ settled =
     }
 
 pub hypotheses_met : HypothesesMet
-unfolding set_field head_of value_of answer_of answers_of words stored plus tally_event tally_of then change entered answered run room_of ran onward advance called
-    factor_at rank_by lowest_by chosen_by enable_module_clock clock_divider controller_clock controller_on chip_select transfer_format transfer_config bus_mode configure_work_mode register_steps
-    fifo_steps opening_steps release_steps opening_refusal steps_of opens releases
+unfolding set_field head_of value_of answer_of answers_of words stored plus tally_event tally_of then change entered
+    answered run room_of ran onward advance called factor_at rank_by lowest_by chosen_by enable_module_clock
+    clock_divider controller_clock controller_on chip_select transfer_format transfer_config bus_mode
+    configure_work_mode register_steps fifo_steps opening_steps release_steps opening_refusal steps_of opens releases
 hypotheses_met =
     record {
       opened = inl refl;

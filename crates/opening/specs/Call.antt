@@ -33,7 +33,8 @@ abbrev pub rate_of : Opening → ℕ
 rate_of o = (sck o.clock_tree.pll_fra0 (clock_of o).mod_div (clock_of o).divider).hz
 
 unfoldable pub steps_of : Opening → Steps
-steps_of o = opening_steps o.instance (clock_of o).mod_div (clock_of o).divider (rate_of o) o.clock_tree.osc_24m o.config
+steps_of o =
+    opening_steps o.instance (clock_of o).mod_div (clock_of o).divider (rate_of o) o.clock_tree.osc_24m o.config
 
 -- What an opening gives: the number, the four counts, the log and the memory, and the rate.
 pub record Result : Type 0 where

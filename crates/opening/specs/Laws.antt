@@ -1,4 +1,5 @@
--- What is proved of an opening and of a release, whatever they are given: demand 3, no polls, and what a refusal leaves.
+-- What is proved of an opening and of a release, whatever they are given: demand 3, no polls, and what a refusal
+-- leaves.
 use Rattle.std.specs.Prelude.{◌≡◌, List, ◌++◌, ◌↔◌, ℕ, ◌<◌}
 use Rattle.model.specs.Tally.{none}
 use Rattle.model.specs.State.{begun, with_number}
@@ -23,7 +24,8 @@ OpeningSteady = (o : Opening) → Steady (opening_refusable o)
 abbrev pub ReleaseSteady : Type 0
 ReleaseSteady = (instance : ℕ) → Steady (release_refusable instance)
 
--- The second opening against the first: done exactly when its limit is above the first's longest, and then alike, in its rate too.
+-- The second opening against the first: done exactly when its limit is above the first's longest, and then alike, in
+-- its rate too.
 pub record AgainOpening (limit : ℕ) (first second : Result) : Type 0 where
   pub exactly : Ended second.state.number ↔ (first.state.tally.longest < limit)
   pub alike : first.state.tally.longest < limit → second ≡ first
@@ -31,12 +33,14 @@ pub record AgainOpening (limit : ℕ) (first second : Result) : Type 0 where
 -- Demand 3: the same opening at another limit from 1 up, with more answers behind.
 abbrev pub OpeningAgain : Type 0
 OpeningAgain =
-    (o : Opening) (limit limit' : ℕ) (answers more log m : List ℕ) → 0 < limit' → Ended (opens o limit answers log m).state.number
+    (o : Opening) (limit limit' : ℕ) (answers more log m : List ℕ) → 0 < limit'
+    → Ended (opens o limit answers log m).state.number
     → AgainOpening limit' (opens o limit answers log m) (opens o limit' (answers ++ more) log m)
 
 abbrev pub ReleaseAgain : Type 0
 ReleaseAgain =
-    (instance limit limit' : ℕ) (answers more log m : List ℕ) → 0 < limit' → Ended (releases instance limit answers log m).number
+    (instance limit limit' : ℕ) (answers more log m : List ℕ) → 0 < limit'
+    → Ended (releases instance limit answers log m).number
     → AgainCall limit' (releases instance limit answers log m) (releases instance limit' (answers ++ more) log m)
 
 -- However they end, they make no poll.

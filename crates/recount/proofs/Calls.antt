@@ -13,7 +13,8 @@ use Rattle.config.specs.Config.{work_mode_of}
 use Rattle.config.specs.declared.config.WorkMode.{WorkMode}
 use Rattle.config.specs.declared.config.WorkMode.TheVariants.{Standard, ThreeWire, Dual, DualIO, Quad, QuadIO, Qpi}
 use Rattle.std.specs.Prelude.{Option, Some, None}
-use Rattle.qspi.specs.Phases.{Move, reset_fifos, program_transfer, start_transfer, begin_transfer, moved, paced, gots, tx_phase, rx_phase}
+use Rattle.qspi.specs.Phases.{Move, reset_fifos, program_transfer, start_transfer}
+use Rattle.qspi.specs.Phases.{begin_transfer, moved, paced, gots, tx_phase, rx_phase}
 use Rattle.qspi.specs.Phases.Move.{sent, got}
 use Rattle.mode.specs.Mode.{lines, qpi_mode, mode_changes, work_mode_steps}
 use Rattle.transfer.specs.Transfer.{transfer_steps, part_steps, parts, in_place_steps}
@@ -47,7 +48,8 @@ reset_paired = then_paired (change_at 0x018 _ refl refl) (delay_paired 10)
 begin_paired : (total tx single dummy : ℕ) → Paired (begin_transfer total tx single dummy)
 unfolding program_transfer start_transfer begin_transfer
 begin_paired total tx single dummy =
-    then_paired (then_paired (change_at 0x030 _ refl refl) (change_at 0x034 _ refl refl)) (then_paired (change_at 0x038 _ refl refl) (change_008 _))
+    then_paired (then_paired (change_at 0x030 _ refl refl) (change_at 0x034 _ refl refl))
+    (then_paired (change_at 0x038 _ refl refl) (change_008 _))
 
 tx_paired : (single : Bool) (bytes : List ℕ) → Paired (tx_phase single bytes)
 unfolding tx_phase
@@ -61,7 +63,8 @@ rx_paired : (at n : ℕ) → Paired (rx_phase at n)
 unfolding rx_phase
 rx_paired at zero = ends done
 rx_paired at (suc n) =
-    then_paired reset_paired (then_paired (begin_paired _ _ _ _) (then_paired (paced_paired received 0 (gots at (suc n))) (wait_paired start)))
+    then_paired reset_paired
+    (then_paired (begin_paired _ _ _ _) (then_paired (paced_paired received 0 (gots at (suc n))) (wait_paired start)))
 
 lines_paired : (quad dual three : ℕ) → Paired (lines quad dual three)
 unfolding lines
@@ -97,7 +100,9 @@ parts_paired (suc count) at n = then_paired (looks (λ m. transfer_paired _ at _
 
 quad_paired : (command : List ℕ) {phase : Steps} → Paired phase → Paired (quad_steps command phase)
 unfolding quad_steps quad_start quad_mode standard_mode
-quad_paired command h = then_paired (then_paired (tx_paired true command) (mode_paired false Quad)) (finally_paired h (mode_paired false Standard))
+quad_paired command h =
+    then_paired (then_paired (tx_paired true command) (mode_paired false Quad))
+    (finally_paired h (mode_paired false Standard))
 
 -- every call of the bus
 pub call_paired : (call : Call) → Paired (steps_of call)
@@ -126,8 +131,10 @@ module _ (settings : Settings) where
   kind_paired f (suc (suc (suc (suc (suc zero))))) = delay_paired _
   kind_paired f (suc (suc (suc (suc (suc (suc zero)))))) = wait_paired start
   kind_paired f (suc (suc (suc (suc (suc (suc (suc zero))))))) = numbered_paired settings.qpi (work_mode_of (f 1))
-  kind_paired f (suc (suc (suc (suc (suc (suc (suc (suc zero)))))))) = looks (λ m. quad_paired _ (rx_paired (f 5) (f 6)))
-  kind_paired f (suc (suc (suc (suc (suc (suc (suc (suc (suc zero))))))))) = looks (λ m. quad_paired _ (tx_paired false _))
+  kind_paired f (suc (suc (suc (suc (suc (suc (suc (suc zero)))))))) =
+      looks (λ m. quad_paired _ (rx_paired (f 5) (f 6)))
+  kind_paired f (suc (suc (suc (suc (suc (suc (suc (suc (suc zero))))))))) =
+      looks (λ m. quad_paired _ (tx_paired false _))
   kind_paired f (suc (suc (suc (suc (suc (suc (suc (suc (suc (suc k)))))))))) = ends done
 
   -- every chain

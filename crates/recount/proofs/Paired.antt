@@ -34,17 +34,20 @@ pub data Paired : Steps → Type 0 where
   ends : (e : End) → Paired (end e)
   acts : {a : Act} {s : Steps} → Apart (act_head a) → Paired s → Paired (act a s)
   asks : {q : Ask} {k : ℕ → Steps} → Apart (ask_head q) → ((x : ℕ) → Paired (k x)) → Paired (ask q k)
-  pairs : {f : ℕ → ℕ} {k : ℕ → Steps} → ((x : ℕ) → Paired (k x)) → Paired (ask (register 0x008) (λ x. act (write 0x008 (f x)) (k x)))
+  pairs : {f : ℕ → ℕ} {k : ℕ → Steps} → ((x : ℕ) → Paired (k x))
+      → Paired (ask (register 0x008) (λ x. act (write 0x008 (f x)) (k x)))
   gets : {i : ℕ} {s : Steps} → Paired s → Paired (get i s)
   looks : {k : List ℕ → Steps} → ((m : List ℕ) → Paired (k m)) → Paired (look k)
   waits : {c : Cause} {k : ℕ → Steps} {u : Steps} → ((n : ℕ) → Paired (k n)) → Paired u → Paired (wait c k u)
 
 -- what an event adds to a count of entries
-other : (h : ℕ) (e : Event) (t : List Event) → eqb (head_of e) h ≡ false → entries_with h (words (e ∷ t)) ≡ entries_with h (words t)
+other : (h : ℕ) (e : Event) (t : List Event) → eqb (head_of e) h ≡ false
+    → entries_with h (words (e ∷ t)) ≡ entries_with h (words t)
 unfolding words entries_with
 other h e t n = rw n (omega arith)
 
-one : (h : ℕ) (e : Event) (t : List Event) → eqb (head_of e) h ≡ true → entries_with h (words (e ∷ t)) ≡ suc (entries_with h (words t))
+one : (h : ℕ) (e : Event) (t : List Event) → eqb (head_of e) h ≡ true
+    → entries_with h (words (e ∷ t)) ≡ suc (entries_with h (words t))
 unfolding words entries_with
 one h e t n = rw n (omega arith)
 
@@ -79,7 +82,8 @@ module _ (e : Event) (apart : Apart (head_of e)) (silent : (tally_event e).polls
 
 -- so does a poll, of 01C or of 008
 module _ (e : Event) (polls : (tally_event e).polls ≡ 1) (o : Outcome) where
-  poll_past : eqb (head_of e) (2 * 65536 + 0x008) ≡ false → reads (words (e ∷ o.trace)) ≡ suc (reads (words o.trace)) → Balanced o → Balanced (after e o)
+  poll_past : eqb (head_of e) (2 * 65536 + 0x008) ≡ false → reads (words (e ∷ o.trace)) ≡ suc (reads (words o.trace))
+      → Balanced o → Balanced (after e o)
   poll_past h r =
       let w = other (2 * 65536 + 0x008) e o.trace h in
       let p = polls_after e o.trace in
@@ -105,13 +109,14 @@ polled_past empty n x o = status_past (polled empty n x) refl o refl
 polled_past start n x o = start_past (polled start n x) refl o refl
 
 -- an entry, and one that takes an answer
-on_entered : (e : Event) → ((o : Outcome) → Balanced o → Balanced (after e o)) → (r : ℕ) (ws m : List ℕ) (k : ℕ → Outcome) → ((r' : ℕ) → Balanced (k r'))
-    → Balanced (entered e r ws m k)
+on_entered : (e : Event) → ((o : Outcome) → Balanced o → Balanced (after e o))
+    → (r : ℕ) (ws m : List ℕ) (k : ℕ → Outcome) → ((r' : ℕ) → Balanced (k r')) → Balanced (entered e r ws m k)
 unfolding entered
 on_entered e keeps zero ws m k h = stopped 10 zero ws m
 on_entered e keeps (suc r) ws m k h = keeps (k r) (h r)
 
-on_answered : (e : ℕ → Event) → ((x : ℕ) (o : Outcome) → Balanced o → Balanced (after (e x) o)) → (r : ℕ) (ws m : List ℕ) (k : ℕ → ℕ → List ℕ → Outcome)
+on_answered : (e : ℕ → Event) → ((x : ℕ) (o : Outcome) → Balanced o → Balanced (after (e x) o))
+    → (r : ℕ) (ws m : List ℕ) (k : ℕ → ℕ → List ℕ → Outcome)
     → ((x r' : ℕ) (l : List ℕ) → Balanced (k x r' l)) → Balanced (answered e r ws m k)
 unfolding answered
 on_answered e keeps zero ws m k h = stopped 10 zero ws m
@@ -124,7 +129,8 @@ on_poll : (c : Cause) (m : List ℕ) (k : ℕ → ℕ → List ℕ → Outcome) 
 unfolding poll
 on_poll c m k u hk hu zero n r ws = hu r ws
 on_poll c m k u hk hu (suc left) n r ws =
-    on_answered (polled c n) (polled_past c n) r ws m _ (λ x r' l. cond_holds Balanced (ready c x) (hk _ r' l) (on_poll c m k u hk hu left _ r' l))
+    on_answered (polled c n) (polled_past c n) r ws m _
+    (λ x r' l. cond_holds Balanced (ready c x) (hk _ r' l) (on_poll c m k u hk hu left _ r' l))
 
 -- and a read of 008 with the write that follows it
 module _ (x v : ℕ) where
@@ -149,29 +155,38 @@ module _ (x v : ℕ) where
   unfolding head_of tally_event words entries_with tally_of plus
   pair_cut ws m = inr (refl, refl)
 
-  on_pair : (r : ℕ) (ws m : List ℕ) (k : ℕ → Outcome) → ((r' : ℕ) → Balanced (k r')) → Balanced (after (heard (register 0x008) x) (entered (did (write 0x008 v)) r ws m k))
+  on_pair : (r : ℕ) (ws m : List ℕ) (k : ℕ → Outcome) → ((r' : ℕ) → Balanced (k r'))
+      → Balanced (after (heard (register 0x008) x) (entered (did (write 0x008 v)) r ws m k))
   unfolding entered
   on_pair zero ws m k h = pair_cut ws m
   on_pair (suc r) ws m k h = pair_past (k r) (h r)
 
-pairs_answered : (f : ℕ → ℕ) (r : ℕ) (ws m : List ℕ) (k : ℕ → ℕ → List ℕ → Outcome) → ((x r' : ℕ) (l : List ℕ) → Balanced (k x r' l))
-    → Balanced (answered (heard (register 0x008)) r ws m (λ x r' rest. entered (did (write 0x008 (f x))) r' rest m (λ r''. k x r'' rest)))
+pairs_answered : (f : ℕ → ℕ) (r : ℕ) (ws m : List ℕ) (k : ℕ → ℕ → List ℕ → Outcome)
+    → ((x r' : ℕ) (l : List ℕ) → Balanced (k x r' l))
+    → Balanced (answered (heard (register 0x008)) r ws m
+    (λ x r' rest. entered (did (write 0x008 (f x))) r' rest m (λ r''. k x r'' rest)))
 unfolding answered
 pairs_answered f zero ws m k h = stopped 10 zero ws m
 pairs_answered f (suc r) [] m k h = stopped 11 (suc r) [] m
 pairs_answered f (suc r) (x ∷ ws) m k h = on_pair x (f x) r ws m (λ r'. k x r' ws) (λ r'. h x r' ws)
 
 -- Every run of such steps is balanced.
-pub balanced : {s : Steps} → Paired s → (limit : ℕ) (late : Bool) (r : ℕ) (ws m : List ℕ) → Balanced (run s limit late r ws m)
+pub balanced : {s : Steps} → Paired s → (limit : ℕ) (late : Bool) (r : ℕ) (ws m : List ℕ)
+    → Balanced (run s limit late r ws m)
 unfolding run head_of tally_event
 balanced (ends e) l b r ws m = stopped _ r ws m
-balanced (acts {a = a} apart h) l b r ws m = on_entered (did a) (past (did a) apart refl) r ws m _ (λ r'. balanced h l b r' ws m)
+balanced (acts {a = a} apart h) l b r ws m =
+    on_entered (did a) (past (did a) apart refl) r ws m _ (λ r'. balanced h l b r' ws m)
 balanced (asks {q = q} apart h) l b r ws m =
     on_answered (heard q) (λ x. past (heard q x) apart refl) r ws m _ (λ x r' ws'. balanced (h _) l b r' ws' m)
-balanced (pairs {f = f} {k = k} h) l b r ws m = pairs_answered f r ws m (λ x r' ws'. run (k x) l b r' ws' m) (λ x r' ws'. balanced (h x) l b r' ws' m)
-balanced (gets {i = i} h) l b r ws m = on_answered (got i) (λ x. past (got i x) refl refl) r ws m _ (λ x r' ws'. balanced h l b r' ws' _)
+balanced (pairs {f = f} {k = k} h) l b r ws m =
+    pairs_answered f r ws m (λ x r' ws'. run (k x) l b r' ws' m) (λ x r' ws'. balanced (h x) l b r' ws' m)
+balanced (gets {i = i} h) l b r ws m =
+    on_answered (got i) (λ x. past (got i x) refl refl) r ws m _ (λ x r' ws'. balanced h l b r' ws' _)
 balanced (looks h) l b r ws m = balanced (h m) l b r ws m
-balanced (waits {c = c} h g) l b r ws m = on_poll c m _ _ (λ x r' ws'. balanced (h x) l b r' ws' m) (λ r' ws'. balanced g l true r' ws' m) l 0 r ws
+balanced (waits {c = c} h g) l b r ws m =
+    on_poll c m _ _ (λ x r' ws'. balanced (h x) l b r' ws' m)
+    (λ r' ws'. balanced g l true r' ws' m) l 0 r ws
 
 -- One after the other.
 pub then_paired : {s t : Steps} → Paired s → Paired t → Paired (then s t)
@@ -201,7 +216,8 @@ pub change_008 : (f : ℕ → ℕ) → Paired (change 0x008 f)
 unfolding change
 change_008 f = pairs (λ x. ends done)
 
-pub change_at : (place : ℕ) (f : ℕ → ℕ) → Apart (ask_head (register place)) → Apart (act_head (write place 0)) → Paired (change place f)
+pub change_at : (place : ℕ) (f : ℕ → ℕ) → Apart (ask_head (register place)) → Apart (act_head (write place 0))
+    → Paired (change place f)
 unfolding change
 change_at place f a w = asks a (λ x. acts w (ends done))
 

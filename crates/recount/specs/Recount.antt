@@ -1,4 +1,5 @@
--- Polls counted again from the words of a log, which do not say of a read of 008 whether it is a poll or part of a change.
+-- Polls counted again from the words of a log, which do not say of a read of 008 whether it is a poll or part of a
+-- change.
 use Rattle.std.specs.Prelude.{◌≡◌, cond, List, [], ◌∷◌, ◌⊎◌, ℕ, suc, ◌+◌, ◌*◌, eqb, take, replicate}
 use Rattle.model.specs.State.{State}
 use Rattle.bus.specs.Calls as bus
@@ -23,16 +24,19 @@ writes ws = entries_with (2 * 65536 + 0x008) ws
 abbrev pub made : State → List ℕ
 made st = take (st.entries * 2) st.log
 
--- The polls are the reads less the writes; with 10 there may be one read more, of a change at 008 whose write did not fit.
+-- The polls are the reads less the writes; with 10 there may be one read more, of a change at 008 whose write did not
+-- fit.
 pub record Recounts (st : State) : Type 0 where
   pub whole : (st.number ≡ 10 → ⊥) → reads (made st) ≡ st.tally.polls + writes (made st)
-  pub cut : (reads (made st) ≡ st.tally.polls + writes (made st)) ⊎ (reads (made st) ≡ suc (st.tally.polls + writes (made st)))
+  pub cut : (reads (made st) ≡ st.tally.polls + writes (made st))
+      ⊎ (reads (made st) ≡ suc (st.tally.polls + writes (made st)))
 
 abbrev pub CallsRecount : Type 0
 CallsRecount = (call : bus.Call) (limit : ℕ) (answers log m : List ℕ) → Recounts (bus.outcome call limit answers log m)
 
 abbrev pub ChainsRecount : Type 0
-ChainsRecount = (c : chain.Request) (limit : ℕ) (answers log m : List ℕ) → Recounts (chain.outcome c limit answers log m)
+ChainsRecount =
+    (c : chain.Request) (limit : ℕ) (answers log m : List ℕ) → Recounts (chain.outcome c limit answers log m)
 
 abbrev pub SheetsRecount : Type 0
 SheetsRecount = (bs log : List ℕ) → Recounts (sheet_outcome (parse bs) log)
@@ -41,7 +45,8 @@ SheetsRecount = (bs log : List ℕ) → Recounts (sheet_outcome (parse bs) log)
 abbrev pub written : ℕ → State
 written n = bus.outcome (bus.Call.write (0x9f ∷ [])) 3 (replicate 8 0) (replicate n 0) []
 
--- What the law speaks of can be had: a write that is done, and one whose log is full between the read and the write of START.
+-- What the law speaks of can be had: a write that is done, and one whose log is full between the read and the write of
+-- START.
 pub record HypothesesMet : Type 0 where
   pub done : (written 30).number ≡ 0
   pub counted : (reads (made (written 30)) ≡ 4) × ((written 30).tally.polls ≡ 3) × (writes (made (written 30)) ≡ 1)

@@ -19,7 +19,8 @@ pub sheet_again : SheetAgain
 unfolding sheet_outcome
 sheet_again l xs bs c log = by (parse bs) refl
   where
-    by : (p : Parsed) → parse bs ≡ p → Ended (sheet_outcome p log).number → AgainCall l (sheet_outcome p log) (sheet_outcome (parse (continued_bytes l xs bs)) log)
+    by : (p : Parsed) → parse bs ≡ p → Ended (sheet_outcome p log).number
+        → AgainCall l (sheet_outcome p log) (sheet_outcome (parse (continued_bytes l xs bs)) log)
     by refused e = λ h. absurd (⊎_elim (λ z. omega (arith, z)) (λ z. omega (arith, z)) h)
     by (sheet s) e =
         rw (continues l xs bs s c.bytes e c.word c.words c.fits)
@@ -36,4 +37,5 @@ lines_are bs = refl
 pub lines_again : LinesAgain
 unfolding end_state sheet_state
 lines_again l xs bs c e h =
-    lines_are (continued_bytes l xs bs) ∙ ap lines_of ((sheet_again l xs bs c (replicate 8192 0) e).alike h) ∙ sym (lines_are bs)
+    lines_are (continued_bytes l xs bs)
+    ∙ ap lines_of ((sheet_again l xs bs c (replicate 8192 0) e).alike h) ∙ sym (lines_are bs)

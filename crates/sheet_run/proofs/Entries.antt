@@ -17,7 +17,8 @@ use Rattle.sheet_run.specs.Text.{filled, Behind}
 use Rattle.sheet_run.specs.Run.{sheet_outcome, sheet_state, RunsSheet}
 use Rattle.sheet_run.specs.Print.{ending_in, end_state, printed_sheet, Prints}
 
-called_fits : (n : ℕ) (s : Steps) (limit : ℕ) (answers log m : List ℕ) → (called n s limit answers log m).entries * 2 ≤ length log
+called_fits : (n : ℕ) (s : Steps) (limit : ℕ) (answers log m : List ℕ)
+    → (called n s limit answers log m).entries * 2 ≤ length log
 called_fits n s limit answers log m =
     called_holds (λ st. st.entries * 2 ≤ length log) n s limit answers log m (λ i. omega arith)
     (λ z. (every_advance_keeps s limit answers (begun log m)).fits (omega arith))

@@ -24,7 +24,8 @@ use Rattle.sheet_run.specs.Print.{end_state}
 use Rattle.sheet_run.specs.Laws.{Continued, flush_bytes, quad_bytes, HypothesesMet}
 
 -- a sheet with another limit and more answers, computed
-may_continue : (l : ℕ) (xs bs : List ℕ) → 0 < l → all_below 256 bs ≡ true → all_below (2 ^ 32) (l ∷ xs) ≡ true → length bs + 4 * length xs ≤ 65536 → Continued l xs bs
+may_continue : (l : ℕ) (xs bs : List ℕ) → 0 < l → all_below 256 bs ≡ true → all_below (2 ^ 32) (l ∷ xs) ≡ true
+    → length bs + 4 * length xs ≤ 65536 → Continued l xs bs
 may_continue l xs bs some b w f =
     let words = below_by (2 ^ 32) (l ∷ xs) w in
     record { bytes = below_by 256 bs b; some = some; word = words.0; words = words.1; fits = f }
@@ -35,9 +36,10 @@ unfolding end_state sheet_state sheet_outcome parse
 quads_end = met.unsupported
 
 pub hypotheses_met : HypothesesMet
-unfolding get_field head_of value_of answer_of answers_of receive words stored plus poll_tally tally_event tally_of then wait_for entered answered poll run room_of ran
-    onward advance called cycles out_of_range extents_fault windows_fault record_fault records_in along checked record_steps chain_steps
-    first_fault refusal outcome parse sheet_outcome sheet_state end_state sheet_fault
+unfolding get_field head_of value_of answer_of answers_of receive words stored plus poll_tally tally_event tally_of then
+    wait_for entered answered poll run room_of ran onward advance called cycles out_of_range extents_fault windows_fault
+    record_fault records_in along checked record_steps chain_steps first_fault refusal outcome parse sheet_outcome
+    sheet_state end_state sheet_fault
 hypotheses_met =
     record {
       ended = inl refl;

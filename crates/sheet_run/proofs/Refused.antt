@@ -43,7 +43,8 @@ unfolding sheet_state sheet_outcome sheet_fault
 refused_leaves bs log = by (parse bs) refl
   where
     by : (p : Parsed) → parse bs ≡ p → (sheet_refusal p ≡ 0 → ⊥)
-        → with_memory (bytes_with bs p (sheet_outcome p log).memory) (sheet_outcome p log) ≡ with_number (sheet_refusal p) (begun log bs)
+        → with_memory (bytes_with bs p (sheet_outcome p log).memory) (sheet_outcome p log)
+        ≡ with_number (sheet_refusal p) (begun log bs)
     by refused e i = refl
     by (sheet s) e i =
         let n = fault_number s.limit (found_in (chain_in s) (length s.memory)) in
@@ -99,7 +100,8 @@ module _ (k : ℕ) (class : touches_nothing k ≡ true) (no_limit : k ≡ 7 → 
       by (sheet s) e =
           let c = chain_in s in
           let found = found_in c (length s.memory) in
-          called_never k (refusal s.limit found) (chain_steps c.settings (chain_of found)) s.limit s.answers log s.memory
+          called_never k (refusal s.limit found)
+          (chain_steps c.settings (chain_of found)) s.limit s.answers log s.memory
           (never_met k class)
           (limit_never s.limit (number_of (verdict found)) k no_limit
           (fault_never k (λ z. never_met k class (inl z)) found (none s e)))

@@ -27,7 +27,8 @@ use Rattle.sheet.specs.Sheet.{sheet, parse, sheet_of, judged, record_count, answ
 use Rattle.sheet.specs.Open.{header_of, opened}
 use Rattle.sheet.proofs.SheetLaws.{Accepted, is_accepted}
 use Rattle.sheet.proofs.OpenLaws.{opened_is, refused_is}
-use Rattle.sheet_run.specs.Run.{sheet_fault, header_unless, sheet_outcome, state_read, sheet_state, with_answers, state_with, RunsSheet, RunsWith}
+use Rattle.sheet_run.specs.Run.{sheet_fault, header_unless, sheet_outcome, state_read}
+use Rattle.sheet_run.specs.Run.{sheet_state, with_answers, state_with, RunsSheet, RunsWith}
 
 -- What an accepted header says of its bytes.
 pub record Heads (bs : List ℕ) (h : Header) : Type 0 where
@@ -84,21 +85,24 @@ module _ {bs : List ℕ} {h : Header} (d : Heads bs h) where
       let l : length (drop 20 bs) ≡ length bs - 20 = length-drop 20 bs in
       rw (← has_room, take_all (length bs - 20) (drop 20 bs) (omega (arith, l))) (omega (arith, d.fits, l))
 
-  pub read_records : {ws : List ℕ} → ws ≡ words (length (take (8 * h.records) room)) (take (length bs - 20) (drop 20 bs))
+  pub read_records : {ws : List ℕ}
+      → ws ≡ words (length (take (8 * h.records) room)) (take (length bs - 20) (drop 20 bs))
       → ws ≡ words (8 * h.records) (drop 20 bs)
   read_records = read_words (8 * h.records) room bs (omega (arith, d.fits, d.most, length-replicate {A = ℕ} 16384 0))
 
 -- no header
-none_opened : (bs : List ℕ) {f : Fault} → Err f ≡ ok_or (opened bs) (fault Thirteen 0) → (opened bs ≡ None) × (f ≡ fault Thirteen 0)
+none_opened : (bs : List ℕ) {f : Fault} → Err f ≡ ok_or (opened bs) (fault Thirteen 0)
+    → (opened bs ≡ None) × (f ≡ fault Thirteen 0)
 none_opened bs {f} q = by (opened bs) refl q
   where
-    by : (o : Option Header) → opened bs ≡ o → Err f ≡ ok_or o (fault Thirteen 0) → (opened bs ≡ None) × (f ≡ fault Thirteen 0)
+    by : (o : Option Header) → opened bs ≡ o → Err f ≡ ok_or o (fault Thirteen 0)
+        → (opened bs ≡ None) × (f ≡ fault Thirteen 0)
     by (Some h) e g = let z : ◌≡◌ {A = ℕ} 0 1 = cc in absurd (omega arith)
     by None e g = (e, cc)
 
 -- 13
-pub refused_13 : (bs log : List ℕ) {f : Fault} {p : Progress} → Err f ≡ ok_or (opened bs) (fault Thirteen 0) → p ≡ refused f.error
-    → RunsSheet bs log p log bs
+pub refused_13 : (bs log : List ℕ) {f : Fault} {p : Progress} → Err f ≡ ok_or (opened bs) (fault Thirteen 0)
+    → p ≡ refused f.error → RunsSheet bs log p log bs
 unfolding sheet_state sheet_outcome
 refused_13 bs log {f} q g = let n = none_opened bs q in record { state = rw (g, n.1, refused_is bs n.0) refl }
 
@@ -130,7 +134,8 @@ module _ (bs : List ℕ) where
       rw (e, d.is, parsed d.ok, l) refl
 
   -- what a run of them comes to, with any answers and with the sheet's own
-  module _ (h : Header) (d : Heads bs h) {recs xs log log' m' : List ℕ} {r : Progress} (e : recs ≡ words (8 * h.records) (drop 20 bs))
+  module _ (h : Header) (d : Heads bs h) {recs xs log log' m' : List ℕ} {r : Progress}
+      (e : recs ≡ words (8 * h.records) (drop 20 bs))
       (ran : Transacts (sheet_chain h.rate h.qpi recs) h.limit xs log
       (take (length bs - h.memory) (drop h.memory bs)) r log' m') where
     state_is : state_of r log' (take h.memory bs ++ (m' ++ drop (length bs - h.memory) (drop h.memory bs)))
@@ -147,7 +152,8 @@ module _ (bs : List ℕ) where
         let ran' = rw (e, d.is, whole) at ran in
         rw (d.is, none, append-nil m', back) (ap (λ st. with_memory (take k bs ++ st.memory) st) ran'.state)
 
-    pub runs_with : RunsWith xs bs log r log' (take h.memory bs ++ (m' ++ drop (length bs - h.memory) (drop h.memory bs)))
+    pub runs_with : RunsWith xs bs log r log'
+        (take h.memory bs ++ (m' ++ drop (length bs - h.memory) (drop h.memory bs)))
     unfolding state_with
     runs_with = record { state = state_is ∙ ap (λ p. state_read bs (with_answers xs p) log) (sym (parsed d.ok)) }
 
@@ -163,15 +169,18 @@ module _ (bs : List ℕ) where
         }
 
   -- what the check answers
-  pub answers_fault : {f : Fault} → Err f ≡ sheet_fault (parse bs) → Err f ≡ header_unless (header_of bs) (sheet_fault (parse bs))
+  pub answers_fault : {f : Fault} → Err f ≡ sheet_fault (parse bs)
+      → Err f ≡ header_unless (header_of bs) (sheet_fault (parse bs))
   answers_fault q = rw (← q) refl
 
-  pub answers_header : (h : Header) → Heads bs h → Ok tt ≡ sheet_fault (parse bs) → Ok h ≡ header_unless (header_of bs) (sheet_fault (parse bs))
+  pub answers_header : (h : Header) → Heads bs h → Ok tt ≡ sheet_fault (parse bs)
+      → Ok h ≡ header_unless (header_of bs) (sheet_fault (parse bs))
   answers_header h d q = rw (← q) (ap Ok d.is)
 
   -- where it finds nothing, the chain may be run
   module _ (h : Header) (d : Heads bs h) (q : sheet_fault (parse bs) ≡ Ok tt) where
-    pub has_limit : (o : Option NonZeroU32) → MatchOption o (h.limit ≡ 0) (λ l. non_zero_u32_get l ≡ h.limit) → is_some o ≡ true
+    pub has_limit : (o : Option NonZeroU32) → MatchOption o (h.limit ≡ 0) (λ l. non_zero_u32_get l ≡ h.limit)
+        → is_some o ≡ true
     has_limit (Some l) m = refl
     has_limit None m = absurd ((fault_free h.limit _ (sym (fault_read h d refl) ∙ q)).0 m)
 
@@ -183,6 +192,6 @@ module _ (bs : List ℕ) where
         rw l (sym (fault_read h d e) ∙ q)
 
 -- the limit that a number has given
-pub limit_is : {o : Option NonZeroU32} {l : NonZeroU32} {n : ℕ} → MatchOption o (n ≡ 0) (λ x. non_zero_u32_get x ≡ n) → o ≡ Some l
-    → non_zero_u32_get l ≡ n
+pub limit_is : {o : Option NonZeroU32} {l : NonZeroU32} {n : ℕ} → MatchOption o (n ≡ 0) (λ x. non_zero_u32_get x ≡ n)
+    → o ≡ Some l → non_zero_u32_get l ≡ n
 limit_is m e = rw e at m

@@ -20,7 +20,8 @@ pub record Continued (l : ℕ) (xs bs : List ℕ) : Type 0 where
   pub words : Below (2 ^ 32) xs
   pub fits : length bs + 4 * length xs ≤ 65536
 
--- A sheet that ended in 0 or 2 does so again exactly if the limit is above its longest, and is then alike in number, counts, log and memory.
+-- A sheet that ended in 0 or 2 does so again exactly if the limit is above its longest, and is then alike in number,
+-- counts, log and memory.
 abbrev pub SheetAgain : Type 0
 SheetAgain =
     (l : ℕ) (xs bs : List ℕ) → Continued l xs bs → (log : List ℕ) → Ended (sheet_outcome (parse bs) log).number
@@ -39,7 +40,8 @@ sheet_refusal p = number_of (sheet_fault p)
 -- A refusal touches neither log nor bytes, and all counts are 0.
 abbrev pub SheetRefused : Type 0
 SheetRefused =
-    (bs log : List ℕ) → (sheet_refusal (parse bs) ≡ 0 → ⊥) → sheet_state bs log ≡ with_number (sheet_refusal (parse bs)) (begun log bs)
+    (bs log : List ℕ) → (sheet_refusal (parse bs) ≡ 0 → ⊥)
+    → sheet_state bs log ≡ with_number (sheet_refusal (parse bs)) (begun log bs)
 
 -- By its number: a sheet that ends in a number that no steps end in has touched neither.
 abbrev pub SheetUntouched : Type 0
@@ -81,9 +83,9 @@ flush_sheet =
 abbrev pub faulty_bytes : List ℕ
 faulty_bytes = spell (1 ∷ 0 ∷ 0 ∷ 2 ∷ 0 ∷ 5 ∷ 0 ∷ 0 ∷ 0 ∷ 0 ∷ 0 ∷ 0 ∷ 2 ∷ 2 ∷ 0 ∷ 1 ∷ 0 ∷ 0 ∷ 0 ∷ 0 ∷ 0 ∷ [])
 
--- What the laws ask for can be had: the flush, which ends in 0, with a limit above its longest and an answer more, and with one that is not
--- above it; the quad records, which end in 2; bytes that are refused, a sheet in which the check finds nothing, and one
--- whose second record is at fault.
+-- What the laws ask for can be had: the flush, which ends in 0, with a limit above its longest and an answer more, and
+-- with one that is not above it; the quad records, which end in 2; bytes that are refused, a sheet in which the check
+-- finds nothing, and one whose second record is at fault.
 pub record HypothesesMet : Type 0 where
   pub ended : Ended (end_state flush_bytes).number
   pub continued : Continued 5 (7 ∷ []) flush_bytes

@@ -7,4 +7,5 @@ pub run_chain-ended-requires : goal.run_chain-ended-requires
 run_chain-ended-requires c = (fault_free _ _ c.requires).1
 
 pub returns : goal.returns
-returns c = goes_transacts c.requires refl c.new-block.ensures c.run_chain-ended.ensures c.progress.ensures (search rules)
+returns c =
+    goes_transacts c.requires refl c.new-block.ensures c.run_chain-ended.ensures c.progress.ensures (search rules)

@@ -1,6 +1,7 @@
 use mathlib.Core.Path.{sym, ◌∙◌}
 use Rattle.std.proofs.lemmas.Result.{err_from_is_err_and}
-use Rattle.sheet_run.proofs.Sheets.{heads, has_room, fills_it, read_records, fault_13, fault_read, answers_fault, answers_header}
+use Rattle.sheet_run.proofs.Sheets.{heads, has_room, fills_it, read_records, fault_13}
+use Rattle.sheet_run.proofs.Sheets.{fault_read, answers_fault, answers_header}
 use Rattle.sheet_run.proofs.check.Goals as goal
 
 pub returns-in_err-h : goal.returns-in_err-h
@@ -18,10 +19,12 @@ pub returns-in-Ok : goal.returns-in-Ok
 returns-in-Ok c =
     let bs = c.args.bytes.now in
     let d = heads bs _ c.in_ok-h.ensures.opens in
-    answers_header bs _ d ((rw c.request.ensures at c.in-Ok.ensures.is) ∙ sym (fault_read bs _ d (read_records d c.fill.ensures)))
+    answers_header bs _ d
+    ((rw c.request.ensures at c.in-Ok.ensures.is) ∙ sym (fault_read bs _ d (read_records d c.fill.ensures)))
 
 pub returns-in-Err : goal.returns-in-Err
 returns-in-Err c =
     let bs = c.args.bytes.now in
     let d = heads bs _ c.in_ok-h.ensures.opens in
-    answers_fault bs ((rw c.request.ensures at c.in-Err.ensures.is) ∙ sym (fault_read bs _ d (read_records d c.fill.ensures)))
+    answers_fault bs
+    ((rw c.request.ensures at c.in-Err.ensures.is) ∙ sym (fault_read bs _ d (read_records d c.fill.ensures)))

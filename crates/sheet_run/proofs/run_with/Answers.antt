@@ -1,5 +1,6 @@
 use mathlib.Core.Path.{sym, ◌∙◌}
-use Rattle.sheet_run.proofs.Sheets.{heads, has_room, fills_it, read_records, passes, has_limit, may_run, limit_is, runs_with}
+use Rattle.sheet_run.proofs.Sheets.{heads, has_room, fills_it, read_records}
+use Rattle.sheet_run.proofs.Sheets.{passes, has_limit, may_run, limit_is, runs_with}
 use Rattle.sheet_run.proofs.run_with.Goals as goal
 
 pub unwrap-h-requires : goal.unwrap-h-requires
