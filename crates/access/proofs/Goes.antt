@@ -16,7 +16,8 @@ use Rattle.access.specs.Does.{Works, Gets, Runs}
 use Rattle.access.specs.Makes.{Resumed, Makes, MakesOn, progress_of}
 use Rattle.access.specs.Goes.{Goes, GoesOn}
 use Rattle.access.proofs.Sequence.{then_does, then_runs, stop_does, stop_runs, does_runs, nothing_done}
-use Rattle.access.proofs.Makes.{error_ne0, lent_then, lent_same}
+use Rattle.config.proofs.Laws.{not_done}
+use Rattle.access.proofs.Makes.{lent_then, lent_same}
 
 -- What waits for nothing was done at any limit.
 module _ {b r : RegisterBlock} {s : Steps} {e : Result (Unit {0}) QspiError} where
@@ -42,7 +43,7 @@ module _ {b r : RegisterBlock} where
       }
 
   pub stop_goes : {f : Steps} (g : Steps) {e : QspiError} → Goes f b r (Err e) → Goes (then f g) b r (Err e)
-  stop_goes {f} g {e} d = record { lent = d.lent; does = stop_does f g (error_ne0 e) d.does }
+  stop_goes {f} g {e} d = record { lent = d.lent; does = stop_does f g (not_done e) d.does }
 
   -- the same on a memory
   pub then_goes_on : {f g : Steps} {t : RegisterBlock} {m m' m'' : List ℕ} {e : Result (Unit {0}) QspiError}
@@ -56,7 +57,7 @@ module _ {b r : RegisterBlock} where
 
   pub stop_goes_on : {f : Steps} (g : Steps) {m m' : List ℕ} {e : QspiError} → GoesOn f b m r m' (Err e)
       → GoesOn (then f g) b m r m' (Err e)
-  stop_goes_on {f} g {e = e} d = record { lent = d.lent; runs = stop_runs f g (error_ne0 e) d.runs }
+  stop_goes_on {f} g {e = e} d = record { lent = d.lent; runs = stop_runs f g (not_done e) d.runs }
 
   pub goes_on : {s : Steps} {e : Result (Unit {0}) QspiError} → Goes s b r e → (m : List ℕ) → GoesOn s b m r m e
   goes_on d m = record { lent = d.lent; runs = does_runs d.does m }

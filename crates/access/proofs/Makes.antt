@@ -12,32 +12,13 @@ use Rattle.model.specs.State.{advance}
 use Rattle.model.proofs.Advance.{skipped, ends}
 use Rattle.model.proofs.Next.{ask_next}
 use Rattle.config.specs.declared.error.QspiError.{QspiError}
-use Rattle.config.specs.declared.error.QspiError.TheVariants.{Timeout, Unsupported, SpiMode, Instance, Qpi, Length}
-use Rattle.config.specs.declared.error.QspiError.TheVariants.{Limit, Chain, Window, Log, Answers, Divider, Sheet}
-use Rattle.config.specs.declared.error.QspiError.TheVariants.{Cycles}
-use Rattle.config.specs.Error.{error_number}
+use Rattle.config.specs.declared.error.QspiError.TheVariants.{Unsupported}
+use Rattle.config.proofs.Laws.{not_done}
 use Rattle.access.specs.declared.block.RegisterBlock.{RegisterBlock}
 use Rattle.access.specs.Of.{state_of}
 use Rattle.access.specs.Does.{Works}
 use Rattle.access.specs.Makes.{Lent, Makes, Queries, progress_at}
 use Rattle.access.proofs.Sequence.{then_works, stop_does}
-
--- no error is the number of done
-pub error_ne0 : (e : QspiError) → error_number e ≡ 0 → ⊥
-error_ne0 Timeout h = omega (arith, h)
-error_ne0 Unsupported h = omega (arith, h)
-error_ne0 SpiMode h = omega (arith, h)
-error_ne0 Instance h = omega (arith, h)
-error_ne0 Qpi h = omega (arith, h)
-error_ne0 Length h = omega (arith, h)
-error_ne0 Limit h = omega (arith, h)
-error_ne0 Chain h = omega (arith, h)
-error_ne0 Window h = omega (arith, h)
-error_ne0 Log h = omega (arith, h)
-error_ne0 Answers h = omega (arith, h)
-error_ne0 Divider h = omega (arith, h)
-error_ne0 Sheet h = omega (arith, h)
-error_ne0 Cycles h = omega (arith, h)
 
 pub lent_then : {b r t : RegisterBlock} → Lent b r → Lent r t → Lent b t
 lent_then d e = record { log = e.log ∙ d.log; answers = e.answers ∙ d.answers; limit = e.limit ∙ d.limit }
@@ -64,7 +45,7 @@ module _ {b r : RegisterBlock} where
         grows = d.grows;
         works = λ t few.
             let w = d.works t few in
-            record { sound = w.sound; does = λ limit. stop_does f g (error_ne0 e) (w.does limit) };
+            record { sound = w.sound; does = λ limit. stop_does f g (not_done e) (w.does limit) };
       }
 
   module _ (place : ℕ) (f : ℕ → ℕ) where
@@ -87,8 +68,8 @@ module _ {b r : RegisterBlock} where
                       state = λ m.
                           sym (ask_next (register place) (λ w. act (write place (f w)) (end done)) limit
                           b.answers.words.now _ _ 0
-                          ((w.does limit).state m) (λ z. absurd (error_ne0 e z))
-                          ∙ skipped _ limit b.answers.words.now _ (error_ne0 e));
+                          ((w.does limit).state m) (λ z. absurd (not_done e z))
+                          ∙ skipped _ limit b.answers.words.now _ (not_done e));
                     };
               };
         }

@@ -18,7 +18,7 @@ use Rattle.access.specs.Of.{state_of, number_in, begun, with_ended, Refuses}
 use Rattle.access.specs.Does.{Sound}
 use Rattle.access.specs.Makes.{Resumed, progress_of}
 use Rattle.access.specs.Goes.{Goes, GoesOn}
-use Rattle.access.proofs.Makes.{error_ne0}
+use Rattle.config.proofs.Laws.{not_done}
 use Rattle.access.proofs.Goes.{begun_runs, goes_on}
 use Rattle.bus.specs.Calls.{Call, steps_of, lengths_of, too_long, refusal, outcome_from}
 use Rattle.bus.specs.Does.{Called, CalledOn, CalledFrom, CalledOnFrom, ended_or}
@@ -64,7 +64,7 @@ module _ (call : Call) (p : Progress) {limit number : ℕ} (same : number ≡ re
     stopped_state m =
         let st = state_of p log m in
         ap (λ t. state_of t log m) q ∙ ap (λ n. with_number n st) a.is
-        ∙ rw (← same) (sym (from_stops number (steps_of call) limit answers st (λ z. error_ne0 e (a.is ∙ z))))
+        ∙ rw (← same) (sym (from_stops number (steps_of call) limit answers st (λ z. not_done e (a.is ∙ z))))
 
     stopped_sound : Sound r
     stopped_sound = rw q few

@@ -22,12 +22,12 @@ use Rattle.access.specs.declared.block.RegisterBlock.{RegisterBlock}
 use Rattle.access.specs.Of.{refused}
 use Rattle.access.specs.Makes.{Begun, progress_of}
 use Rattle.access.specs.Goes.{GoesOn}
-use Rattle.access.proofs.Makes.{error_ne0}
+use Rattle.config.proofs.Laws.{not_done}
 use Rattle.access.proofs.Goes.{begun_runs}
 use Rattle.records.specs.declared.Fault.{Fault}
 use Rattle.records.specs.declared.rules.Rules.{Rules}
 use Rattle.records.specs.Check.{Checked, checked, fault, verdict, number_of, chain_of}
-use Rattle.records.specs.Laws.{EachFault}
+use Rattle.records.specs.Laws.{OfFault, EachFault}
 use Rattle.records.proofs.Lengths.{fault_numbers}
 use Rattle.chain.specs.Chain.{chain_steps}
 use Rattle.chain.specs.Transaction.{Request, found_in, first_fault, refusal, outcome, FaultNumber, Transacts}
@@ -62,10 +62,7 @@ fault_free limit found e =
     (n, sym (some_first found n) ∙ e)
 
 -- a fault's number is neither 0 nor 2
-abbrev Numbered : ℕ → Type 0
-Numbered n = (n ≡ 6) ⊎ (n ≡ 8) ⊎ (n ≡ 9) ⊎ (n ≡ 14)
-
-fault_not : (n k : ℕ) → Numbered n → k < 6 → n ≡ k → ⊥
+fault_not : (n k : ℕ) → OfFault n → k < 6 → n ≡ k → ⊥
 fault_not n k f h z =
     ⊎_elim (other 6 (omega arith))
     (⊎_elim (other 8 (omega arith)) (⊎_elim (other 9 (omega arith)) (other 14 (omega arith)))) f
@@ -73,7 +70,7 @@ fault_not n k f h z =
     other : (m : ℕ) → 6 ≤ m → n ≡ m → ⊥
     other m i e = omega (arith, i, e, h, z)
 
-found_not : (c : Checked) (k : ℕ) → EachFault Numbered c → k < 6 → number_of (verdict c) ≡ k
+found_not : (c : Checked) (k : ℕ) → EachFault OfFault c → k < 6 → number_of (verdict c) ≡ k
     → (k ≡ 0) × (verdict c ≡ Ok tt)
 found_not (Err g) k f h e = absurd (fault_not (error_number g.error) k f h e)
 found_not (Ok rs) k f h e = (sym e, refl)
@@ -85,7 +82,7 @@ module _ {c : Request} {limit : ℕ} {m : List ℕ} where
   refused_transacts {f} answers log e =
       let n : error_number f.error ≡ refusal limit (finds c m) = ap number_of e ∙ fault_number limit _ in
       record {
-        state = rw (← n) (sym (called_refused (steps_in c m) limit answers log m (error_ne0 f.error)));
+        state = rw (← n) (sym (called_refused (steps_in c m) limit answers log m (not_done f.error)));
       }
 
   -- Where nothing was found, it has run from no entry and the first answer on.

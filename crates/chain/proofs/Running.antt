@@ -17,7 +17,8 @@ use Rattle.access.specs.declared.block.RegisterBlock.{RegisterBlock}
 use Rattle.access.specs.Does.{Sound, Runs}
 use Rattle.access.specs.Makes.{Lent, progress_of}
 use Rattle.access.specs.Goes.{GoesOn}
-use Rattle.access.proofs.Makes.{error_ne0, lent_same, lent_then}
+use Rattle.config.proofs.Laws.{not_done}
+use Rattle.access.proofs.Makes.{lent_same, lent_then}
 use Rattle.std.specs.Prelude.{Result, Ok, Err, Some}
 use Rattle.config.specs.declared.error.QspiError.{QspiError}
 use Rattle.config.specs.declared.error.QspiError.TheVariants.{Chain}
@@ -170,7 +171,7 @@ module _ (c : Request) where
     stops_on {a} d =
         record {
           lent = lent_then on.lent d.lent;
-          runs = running_stops c on.runs e (ran d) (error_ne0 a);
+          runs = running_stops c on.runs e (ran d) (not_done a);
         }
 
     pub ends_on : GoesOn (steps_of c.settings s) r m' t m'' (Ok tt) → next_of rec ≡ 0

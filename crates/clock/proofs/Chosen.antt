@@ -124,7 +124,7 @@ module _ (pll target : ℕ) (p : pll < 2 ^ 32) (t : target < 2 ^ 32) where
       ]
 
   -- where a candidate is eligible, the chosen one is the choice
-  chosen_is : (j : ℕ) → Eligible pll j → IsChoice pll target (chosen pll target)
+  pub chosen_is : (j : ℕ) → Eligible pll j → IsChoice pll target (chosen pll target)
   chosen_is j f = ⊎_elim (λ c. c) (λ n. absurd (n.0 j f)) outcome
 
 pub choice_right : ChoiceRight

@@ -4,7 +4,7 @@ use mathlib.Core.Path.{◌≡◌, ◌∙◌, refl, ap}
 use Prim.Native.Nat.{ℕ, zero, suc, ◌+◌, ◌%◌, ◌<◌, ◌≤◌}
 use Rattle.std.specs.Prelude.{get_or}
 use Rattle.std.proofs.lemmas.List.FromFn.{get_or-map-range_with_len}
-use borrow.Author.Tests.{lt-ltb}
+use borrow.Author.Tests.{lt-ltb, le-ltb}
 use native.Mathlib.Decide.{dec_lt}
 use native.Mathlib.Omega.{arith}
 use Rattle.clock.specs.declared.DividerSelect.TheVariants.{Cdr1, Cdr2}
@@ -31,6 +31,17 @@ factor_rises place j p l h =
 
 pub factor_pos : (place : ℕ) → place < 272 → 0 < factor_at place
 factor_pos place h = rw (factors_by_rule place h) (formula_pos place)
+
+-- the last of Cdr1 is the largest
+pub factor_most : (place : ℕ) → place < 272 → factor_at place ≤ 32_768
+unfolding factor_at
+factor_most place h =
+    elim (dec_lt place 16) [
+      | yes c ↦ factor_rises place 15 h (omega arith) (rw (lt-ltb _ _ c) (omega arith))
+      | no g ↦
+          let last = factor_rises place 271 h (omega arith) (rw (le-ltb place 16 (omega arith)) (omega arith)) in
+          omega (arith, last)
+    ]
 
 pub same_rates : SameRates
 same_rates pll i = rw (factors_by_rule (i % 272) (omega arith))

@@ -1,4 +1,5 @@
--- The candidates by index are those of document 01 in scan order, each with its rate; the PLL rates where none is eligible.
+-- The candidates by index are those of document 01 in scan order, each with its rate; the PLL rates where none is
+-- eligible.
 use mathlib.Core.Bool.{Bool, true, false}
 use mathlib.Core.Path.{◌≡◌, refl, ap}
 use Prim.Native.Nat.{ℕ, ◌+◌, ◌*◌, ◌/◌, ◌%◌, ◌≤◌, ◌<◌}
@@ -47,16 +48,16 @@ answer_determines None (Some y) e = let n = ap (λ (r : Answer). r.number) e in 
 answer_determines None None e = refl
 
 -- from 3,200,000,032 Hz on, and at 0 Hz, no module clock is eligible
-pub beyond_any_clock : BeyondAnyClock
-beyond_any_clock pll target h p t = none_eligible pll target p t none
-  where
-    none : NoneEligible pll
-    none i e =
-        let least = le-div_iff_mul-le {k = i / 272 + 1} {x = 100_000_001} {y = pll} (omega arith) in
-        let fast = least.1 (omega (arith, e.scanned)) in
-        omega (arith, e.most)
+pub none_beyond : (pll : ℕ) → 3_200_000_032 ≤ pll → NoneEligible pll
+none_beyond pll h i e =
+    let least = le-div_iff_mul-le {k = i / 272 + 1} {x = 100_000_001} {y = pll} (omega arith) in
+    let fast = least.1 (omega (arith, e.scanned)) in
+    omega (arith, e.most)
 
-none_at_zero : NoneEligible 0
+pub beyond_any_clock : BeyondAnyClock
+beyond_any_clock pll target h p t = none_eligible pll target p t (none_beyond pll h)
+
+pub none_at_zero : NoneEligible 0
 none_at_zero i e = let slow = rw zero-div at e.least in omega arith
 
 pub no_clock : NoClock

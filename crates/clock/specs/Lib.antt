@@ -5,5 +5,6 @@ pub mod Rank
 pub mod Skip
 pub mod Answer
 pub mod Formulas
+pub mod Clocked
 pub mod Dummies
 pub mod Laws

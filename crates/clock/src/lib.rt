@@ -6,6 +6,7 @@ ghost use Rattle.clock.specs.Candidate.{candidate, factor_at, divider_at, in_ran
 ghost use Rattle.clock.specs.Skip.{next_place};
 ghost use Rattle.clock.specs.Rank.{choice, cost};
 ghost use Rattle.clock.specs.Answer.{answer, sck};
+ghost use Rattle.clock.specs.Clocked.{clocked};
 ghost use Rattle.clock.specs.Dummies.{dummies, clamped, periods};
 
 // The least and the largest SCK of an opening.
@@ -14,6 +15,9 @@ const MIN_HZ: u32 = 100_000;
 const MAX_HZ: u32 = 100_000_000;
 
 const MODULES: u32 = 32;
+
+// The least PLL rate of which no module divider gives an eligible clock, 0 apart.
+const NO_CLOCK_HZ: u32 = MODULES * (MAX_HZ + 1);
 
 const PLACES: u32 = 272;
 
@@ -67,6 +71,13 @@ fn eligible(clock: u32) -> bool
     ensures { result ≡ in_range clock }
 {
     1 <= clock && clock <= MAX_HZ
+}
+
+// Does some module divider give an eligible clock?
+pub fn has_clock(pll: u32) -> bool
+    ensures { result ≡ clocked pll }
+{
+    1 <= pll && pll < NO_CLOCK_HZ
 }
 
 // The divider at a place of the scan within a module divider.

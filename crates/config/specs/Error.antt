@@ -1,12 +1,12 @@
 -- The number and words of each error, from document 01 ("How a call ends") and from 14 on document 02, and the number
 -- by which a call ends.
-use Rattle.std.specs.Prelude.{ℕ, Bool, ◌&&◌, ◌||◌, nat_le, List, Result, Ok, Err, codes}
+use Rattle.std.specs.Prelude.{ℕ, Bool, ◌&&◌, ◌||◌, nat_le, eqb, List, Result, Ok, Err, codes}
 use Rattle.config.specs.declared.error.QspiError.{QspiError}
 use Rattle.config.specs.declared.error.QspiError.TheVariants.{Timeout, Unsupported, SpiMode, Instance, Qpi, Length}
 use Rattle.config.specs.declared.error.QspiError.TheVariants.{Limit, Chain, Window, Log, Answers, Divider, Sheet}
-use Rattle.config.specs.declared.error.QspiError.TheVariants.{Cycles}
+use Rattle.config.specs.declared.error.QspiError.TheVariants.{Cycles, NoClock}
 
--- 1 to 13, and 14 of request 2
+-- 1 to 13, 14 of request 2 and 23 of request 13
 abbrev pub error_number : QspiError → ℕ
 error_number Timeout = 1
 error_number Unsupported = 2
@@ -22,6 +22,7 @@ error_number Answers = 11
 error_number Divider = 12
 error_number Sheet = 13
 error_number Cycles = 14
+error_number NoClock = 23
 
 abbrev pub error_text : QspiError → List ℕ
 error_text Timeout = codes "timeout"
@@ -38,12 +39,14 @@ error_text Answers = codes "answers used up"
 error_text Divider = codes "divider"
 error_text Sheet = codes "sheet"
 error_text Cycles = codes "core rate 0 at opening, or a delay above FFFFFFFF hex cycles"
+error_text NoClock = codes "no eligible module clock at opening"
 
 -- 0 done, else the error's number
 abbrev pub ended_number : {T : Type 0} → Result T QspiError → ℕ
 ended_number (Ok x) = 0
 ended_number (Err error) = error_number error
 
--- the numbers of what touches no register and no lent byte: 3 to 9, 12 and 13 (demand 1), and 14 of request 2
+-- the numbers of what touches no register and no lent byte: 3 to 9, 12 and 13 (demand 1), 14 of request 2 and
+-- 23 of request 13
 abbrev pub touches_nothing : ℕ → Bool
-touches_nothing n = (nat_le 3 n && nat_le n 9) || (nat_le 12 n && nat_le n 14)
+touches_nothing n = (nat_le 3 n && nat_le n 9) || (nat_le 12 n && nat_le n 14) || eqb n 23

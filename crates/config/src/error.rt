@@ -35,6 +35,8 @@ pub enum QspiError {
     Sheet = 13,
     // Core rate 0 at opening, or a delay of more cycles than 32 bits hold.
     Cycles = 14,
+    // No eligible module clock at opening.
+    NoClock = 23,
 }
 
 impl QspiError {
@@ -73,6 +75,7 @@ impl fmt::Display for QspiError {
             QspiError::Divider => "divider",
             QspiError::Sheet => "sheet",
             QspiError::Cycles => "core rate 0 at opening, or a delay above FFFFFFFF hex cycles",
+            QspiError::NoClock => "no eligible module clock at opening",
         })
     }
 }
@@ -91,5 +94,5 @@ pub fn number_of(ended: Result<(), QspiError>) -> u32
 pub fn touches_nothing(number: u32) -> bool
     ensures { result ≡ touches_nothing number }
 {
-    matches!(number, 3..=9 | 12..=14)
+    matches!(number, 3..=9 | 12..=14 | 23)
 }

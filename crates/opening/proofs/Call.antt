@@ -24,7 +24,7 @@ use Rattle.std.specs.declared.num.NonZeroU32.{NonZeroU32}
 use Rattle.access.specs.declared.block.RegisterBlock.{RegisterBlock}
 use Rattle.access.specs.Of.{state_of, number_in, begun, refused, Refuses}
 use Rattle.access.specs.Does.{Works}
-use Rattle.access.proofs.Makes.{error_ne0}
+use Rattle.config.proofs.Laws.{not_done}
 use Rattle.access.specs.Makes.{Begun, Makes, progress_of}
 use Rattle.opening.specs.Steps.{opening_steps, release_steps}
 use Rattle.opening.specs.declared.Opening.{Opening}
@@ -59,7 +59,7 @@ pub refused_opens : (o : Opening) (limit : ℕ) (answers log : List ℕ) {p : Pr
     → Opens o limit answers log (record { progress = p; sck_hz = None }) log
 unfolding opens
 refused_opens o limit answers log {e = e} i q =
-    let z = error_ne0 e in
+    let z = not_done e in
     record {
       result = λ m. rw (← i.is, called_refused (steps_of o) limit answers log m z, q, ne_eqb _ _ z) refl;
       given = rw (q, ne_eqb _ _ z) refl;

@@ -1,5 +1,5 @@
 -- An opening and a release as a user calls them: what is refused, and what is given for every input
--- (document 01, "How a call ends"; 14 by request 2).
+-- (document 01, "How a call ends"; 14 by request 2, 23 by request 13).
 use Rattle.std.specs.Prelude.{◌≡◌, cond, not, ◌&&◌, List, ℕ, eqb, ltb, Some, None, unwrap_or}
 use Rattle.model.specs.Steps.{Steps}
 use Rattle.model.specs.State.{State, called}
@@ -8,6 +8,7 @@ use Rattle.config.specs.Config.{is_qpi}
 use Rattle.clock.specs.declared.Choice.{Choice}
 use Rattle.clock.specs.Rank.{choice}
 use Rattle.clock.specs.Answer.{sck}
+use Rattle.clock.specs.Clocked.{clocked}
 use Rattle.clock.specs.Dummies.{clamped}
 use Rattle.access.specs.declared.progress.Tally.{Tally}
 use Rattle.access.specs.declared.progress.Progress.{Progress}
@@ -16,14 +17,15 @@ use Rattle.opening.specs.declared.Opening.{Opening}
 use Rattle.opening.specs.declared.Opened.{Opened}
 use Rattle.opening.specs.Steps.{opening_steps, release_steps}
 
--- the first that holds: 3 SPI mode 1 or 3, 4 instance above 3, 5 QPI on a chip without it, 14 core rate 0, 7 limit 0;
--- else 0
+-- the first that holds: 3 SPI mode 1 or 3, 4 instance above 3, 5 QPI on a chip without it, 14 core rate 0, 23 no module
+-- divider gives an eligible clock, 7 limit 0; else 0
 unfoldable pub opening_refusal : Opening → ℕ → ℕ
 opening_refusal o limit =
     let c = o.config in
     cond (not (supported c.mode)) 3
     (cond (ltb 3 o.instance) 4
-    (cond (is_qpi c.work_mode && not o.qpi) 5 (cond (eqb o.core_hz 0) 14 (cond (eqb limit 0) 7 0))))
+    (cond (is_qpi c.work_mode && not o.qpi) 5
+    (cond (eqb o.core_hz 0) 14 (cond (not (clocked o.clock_tree.pll_fra0)) 23 (cond (eqb limit 0) 7 0)))))
 
 -- the clock, for the target clamped; and the rate that it gives
 abbrev pub clock_of : Opening → Choice

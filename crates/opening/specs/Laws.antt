@@ -1,5 +1,5 @@
--- What is proved of an opening and of a release, whatever they are given: demand 3, no polls, and what a refusal
--- leaves.
+-- What is proved of an opening and of a release, whatever they are given: demand 3, no polls, the rate of an opened
+-- bus, and what a refusal leaves.
 use Rattle.std.specs.Prelude.{◌≡◌, List, ◌++◌, ◌↔◌, ℕ, ◌<◌}
 use Rattle.model.specs.Tally.{none}
 use Rattle.model.specs.State.{begun, with_number}
@@ -7,6 +7,7 @@ use Rattle.model.specs.Ends.{Met}
 use Rattle.model.specs.Called.{Untouched}
 use Rattle.model.specs.Limit.{Ended, AgainCall}
 use Rattle.model.specs.Refusable.{Refusable, Steady}
+use Rattle.clock.specs.Clocked.{BusRate}
 use Rattle.opening.specs.Steps.{release_steps}
 use Rattle.opening.specs.declared.Opening.{Opening}
 use Rattle.opening.specs.Call.{Result, opening_refusal, steps_of, opens, releases}
@@ -55,6 +56,12 @@ abbrev pub OpeningRefused : Type 0
 OpeningRefused =
     (o : Opening) (limit : ℕ) (answers log m : List ℕ) → (opening_refusal o limit ≡ 0 → ⊥)
     → opens o limit answers log m ≡ record { state = with_number (opening_refusal o limit) (begun log m); rate = 0 }
+
+-- Request 13: each opened bus has a rate from 1 to 100,000,000 Hz.
+abbrev pub OpenedRate : Type 0
+OpenedRate =
+    (o : Opening) (limit : ℕ) (answers log m : List ℕ) → (opens o limit answers log m).state.number ≡ 0
+    → BusRate (opens o limit answers log m).rate
 
 -- By its number: an opening that ends in a number that no steps end in has touched no register and no lent byte, and
 -- gives no rate.

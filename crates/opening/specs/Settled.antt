@@ -13,19 +13,20 @@ use Rattle.config.specs.Config.{default_config, nor_flash}
 use Rattle.opening.specs.declared.Opening.{Opening}
 use Rattle.opening.specs.Call.{opening_refusal, opens, releases}
 
--- a configuration on an instance at a core rate, with a PLL of 1,200,000,000 Hz (P1) and an oscillator of 24,000,000 Hz
-abbrev pub asked_at : ℕ → ℕ → QspiConfig → Opening
-asked_at core_hz instance config =
+-- a configuration on an instance, at a core rate and a PLL rate, with an oscillator of 24,000,000 Hz
+abbrev pub asked_at : ℕ → ℕ → ℕ → QspiConfig → Opening
+asked_at core_hz pll instance config =
     record {
       instance = instance;
       qpi = false;
       core_hz = core_hz;
       config = config;
-      clock_tree = record { pll_fra0 = 1_200_000_000; osc_24m = 24_000_000 };
+      clock_tree = record { pll_fra0 = pll; osc_24m = 24_000_000 };
     }
 
+-- with a PLL of 1,200,000,000 Hz (P1)
 abbrev pub asked : ℕ → QspiConfig → Opening
-asked = asked_at 1_000_000_000
+asked = asked_at 1_000_000_000 1_200_000_000
 
 -- the default configuration in another SPI mode and work mode
 abbrev pub in_mode : Mode → WorkMode → QspiConfig
@@ -96,16 +97,21 @@ pub record Settled : Type 0 where
   pub no_chip_select : end_of (asked 1 nor_flash) 1 28 12 ≡ 0 ∷ 28 ∷ 12 ∷ 0 ∷ 0 ∷ 100_000_000 ∷ []
   pub three_wire_lem : end_of (asked 2 (in_mode default_config.mode ThreeWire)) 1 32 14
       ≡ 0 ∷ 32 ∷ 14 ∷ 0 ∷ 0 ∷ 10_000_000 ∷ []
+  -- a PLL of 1 Hz gives a rate of 1 Hz, and the last one with a clock a rate too
+  pub slowest : end_of (asked_at 1 1 0 default_config) 1 30 13 ≡ 0 ∷ 30 ∷ 13 ∷ 0 ∷ 0 ∷ 1 ∷ []
+  pub last_clock : end_of (asked_at 1 3_200_000_031 0 default_config) 1 30 13
+      ≡ 0 ∷ 30 ∷ 13 ∷ 0 ∷ 0 ∷ 10_000_000 ∷ []
   -- 10 and 11 at an access, with rate 0: at the first one, in the last change, and 10 before 11
   pub full : end_of (asked 0 default_config) 1 29 13 ≡ 10 ∷ 29 ∷ 13 ∷ 0 ∷ 0 ∷ 0 ∷ []
   pub dry : end_of (asked 0 default_config) 1 30 12 ≡ 11 ∷ 28 ∷ 12 ∷ 0 ∷ 0 ∷ 0 ∷ []
   pub no_room : end_of (asked 0 default_config) 1 0 0 ≡ 10 ∷ 0 ∷ 0 ∷ 0 ∷ 0 ∷ 0 ∷ []
   pub no_answers : end_of (asked 0 default_config) 1 30 0 ≡ 11 ∷ 0 ∷ 0 ∷ 0 ∷ 0 ∷ 0 ∷ []
-  -- everything wrong at once gives 3; then 4, 5, 14 and 7, each without the ones before
-  pub all_wrong : end_of (asked_at 0 9 (in_mode mode1 Qpi)) 0 30 13 ≡ 3 ∷ 0 ∷ 0 ∷ 0 ∷ 0 ∷ 0 ∷ []
-  pub instance_wrong : end_of (asked_at 0 4 (in_mode default_config.mode Qpi)) 0 30 13 ≡ 4 ∷ 0 ∷ 0 ∷ 0 ∷ 0 ∷ 0 ∷ []
-  pub qpi_wrong : end_of (asked_at 0 3 (in_mode default_config.mode Qpi)) 0 30 13 ≡ 5 ∷ 0 ∷ 0 ∷ 0 ∷ 0 ∷ 0 ∷ []
-  pub core_wrong : end_of (asked_at 0 3 default_config) 0 30 13 ≡ 14 ∷ 0 ∷ 0 ∷ 0 ∷ 0 ∷ 0 ∷ []
+  -- everything wrong at once gives 3; then 4, 5, 14, 23 and 7, each without the ones before
+  pub all_wrong : end_of (asked_at 0 0 9 (in_mode mode1 Qpi)) 0 30 13 ≡ 3 ∷ 0 ∷ 0 ∷ 0 ∷ 0 ∷ 0 ∷ []
+  pub instance_wrong : end_of (asked_at 0 0 4 (in_mode default_config.mode Qpi)) 0 30 13 ≡ 4 ∷ 0 ∷ 0 ∷ 0 ∷ 0 ∷ 0 ∷ []
+  pub qpi_wrong : end_of (asked_at 0 0 3 (in_mode default_config.mode Qpi)) 0 30 13 ≡ 5 ∷ 0 ∷ 0 ∷ 0 ∷ 0 ∷ 0 ∷ []
+  pub core_wrong : end_of (asked_at 0 0 3 default_config) 0 30 13 ≡ 14 ∷ 0 ∷ 0 ∷ 0 ∷ 0 ∷ 0 ∷ []
+  pub clock_wrong : end_of (asked_at 1 3_200_000_032 3 default_config) 0 30 13 ≡ 23 ∷ 0 ∷ 0 ∷ 0 ∷ 0 ∷ 0 ∷ []
   pub limit_wrong : end_of (asked 3 default_config) 0 30 13 ≡ 7 ∷ 0 ∷ 0 ∷ 0 ∷ 0 ∷ 0 ∷ []
   -- a release at limit 0, and of an instance above 3
   pub release : released_log 2 0 ≡ 0x11002 ∷ 0xffffffff ∷ 0x21002 ∷ 0xffffceff ∷ 7 ∷ []

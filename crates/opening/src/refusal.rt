@@ -14,7 +14,7 @@ fn lacks_qpi(work_mode: WorkMode, qpi: bool) -> bool
     work_mode.is_qpi() && !qpi
 }
 
-// 3, 4, 5, 14 or 7, in this order; else the limit.
+// 3, 4, 5, 14, 23 or 7, in this order; else the limit.
 #[tactic(auto, unfolding(crate::specs::Call::opening_refusal))]
 pub fn refused(limit: u32, opening: Opening) -> Result<NonZeroU32, QspiError>
     ensures { Refuses limit (opening_refusal opening limit) result }
@@ -31,6 +31,9 @@ pub fn refused(limit: u32, opening: Opening) -> Result<NonZeroU32, QspiError>
     }
     if opening.core_hz == 0 {
         return Err(QspiError::Cycles);
+    }
+    if !clock::has_clock(opening.clock_tree.pll_fra0) {
+        return Err(QspiError::NoClock);
     }
     NonZeroU32::new(limit).ok_or(QspiError::Limit)
 }

@@ -14,7 +14,7 @@ use Rattle.config.specs.declared.error.QspiError.{QspiError}
 use Rattle.config.specs.Error.{error_number}
 use Rattle.access.specs.declared.progress.Tally.{Tally}
 use Rattle.access.specs.Does.{Works}
-use Rattle.access.proofs.Makes.{error_ne0}
+use Rattle.config.proofs.Laws.{not_done}
 use Rattle.qspi.specs.Phases.{moved_all, gots}
 use Rattle.qspi.specs.Phases.Move.{sent}
 use Rattle.qspi.specs.Entered.{counts, Enters, EntersOn}
@@ -51,7 +51,7 @@ module _ {bytes log log' : List ℕ} {n n' i : ℕ} (on : SendingIn bytes log n 
       record {
         grows = on.grows;
         works = λ ws taken t few.
-            sending_stops (on.sends ws taken t few) h (w ws taken t (omega (arith, few, on.grows))) (error_ne0 e);
+            sending_stops (on.sends ws taken t few) h (w ws taken t (omega (arith, few, on.grows))) (not_done e);
       }
 
 pub all_sent : {bytes log log' : List ℕ} {n n' i : ℕ} → SendingIn bytes log n log' n' i → length bytes ≤ i
@@ -92,8 +92,8 @@ module _ {buf answers log log' buf' : List ℕ} {n taken n' taken' i : ℕ}
       record {
         grows = on.grows;
         gets = λ t few.
-            let none : error_number e ≡ 0 → 0 ≡ said byte (get_or answers taken' 0) = λ z. absurd (error_ne0 e z) in
-            getting_stops (on.gets t few) h (w t (omega (arith, few, on.grows))) none (error_ne0 e);
+            let none : error_number e ≡ 0 → 0 ≡ said byte (get_or answers taken' 0) = λ z. absurd (not_done e z) in
+            getting_stops (on.gets t few) h (w t (omega (arith, few, on.grows))) none (not_done e);
       }
 
 pub all_got : {buf answers log log' buf' : List ℕ} {n taken n' taken' i : ℕ}

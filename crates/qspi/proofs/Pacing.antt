@@ -12,7 +12,8 @@ use Rattle.access.specs.declared.block.RegisterBlock.{RegisterBlock}
 use Rattle.access.specs.Makes.{Lent, Makes, MakesOn}
 use Rattle.access.specs.Goes.{Goes, GoesOn}
 use Rattle.access.specs.Makes.{progress_of}
-use Rattle.access.proofs.Makes.{error_ne0, lent_then, lent_same}
+use Rattle.config.proofs.Laws.{not_done}
+use Rattle.access.proofs.Makes.{lent_then, lent_same}
 use Rattle.access.proofs.Through.{Through, through_starts, through_stops, through_done}
 use Rattle.waits.specs.Does.{Waited}
 use Rattle.qspi.specs.Phases.{moved_all, paced, gots}
@@ -35,7 +36,7 @@ module _ {bytes : List ℕ} {p r s : RegisterBlock} {i : ℕ} (on : WritingOn by
   unpaced {e} w =
       record {
         lent = lent_then on.lent w.lent;
-        does = writing_stops on.writes h (rw (on.lent.answers, on.lent.limit) at w.waits) (error_ne0 e);
+        does = writing_stops on.writes h (rw (on.lent.answers, on.lent.limit) at w.waits) (not_done e);
       }
 
   -- the portion that it has space for, sent to the block b
@@ -59,7 +60,7 @@ module _ {bytes : List ℕ} {p r s : RegisterBlock} {i : ℕ} (on : WritingOn by
 
     pub unwritten : {a : QspiError} → Makes (moved_all (map sent (take len (drop i bytes)))) s b (Err a)
         → Goes (paced space 0 (map sent bytes)) p b (Err a)
-    unwritten {a} m = record { lent = lent_sent m; does = writing_cut (written m) (error_ne0 a) }
+    unwritten {a} m = record { lent = lent_sent m; does = writing_cut (written m) (not_done a) }
 
 pub all_written : {bytes : List ℕ} {p r : RegisterBlock} {i : ℕ} → WritingOn bytes p r i → length bytes ≤ i
     → Goes (paced space 0 (map sent bytes)) p r (Ok tt)
@@ -82,7 +83,7 @@ module _ {buf buf' : List ℕ} {p r s : RegisterBlock} {i : ℕ} (on : ReadingOn
   unreceived {e} w =
       record {
         lent = lent_then on.lent w.lent;
-        runs = reading_stops on.reads h (rw (on.lent.answers, on.lent.limit) at w.waits) (error_ne0 e);
+        runs = reading_stops on.reads h (rw (on.lent.answers, on.lent.limit) at w.waits) (not_done e);
       }
 
   -- the portion that was received, got at the block b into the part, which is `part'` now
@@ -112,7 +113,7 @@ module _ {buf buf' : List ℕ} {p r s : RegisterBlock} {i : ℕ} (on : ReadingOn
         (take len (drop i buf')) b part' (Err a)
         → GoesOn (paced received 0 (gots 0 (length buf))) p buf b (take i buf' ++ (part' ++ drop len (drop i buf')))
         (Err a)
-    ungot {a} m = record { lent = lent_on m; runs = through_stops (received_part m) (error_ne0 a) }
+    ungot {a} m = record { lent = lent_on m; runs = through_stops (received_part m) (not_done a) }
 
 pub all_read : {buf buf' : List ℕ} {p r : RegisterBlock} {i : ℕ} → ReadingOn buf p r buf' i → length buf ≤ i
     → GoesOn (paced received 0 (gots 0 (length buf))) p buf r buf' (Ok tt)

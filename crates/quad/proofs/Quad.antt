@@ -22,7 +22,8 @@ use Rattle.access.specs.Of.{state_of, number_in}
 use Rattle.access.specs.Does.{Sound, Does, Runs}
 use Rattle.access.specs.Goes.{Goes, GoesOn}
 use Rattle.access.specs.Makes.{progress_of}
-use Rattle.access.proofs.Makes.{error_ne0, lent_then}
+use Rattle.config.proofs.Laws.{not_done}
+use Rattle.access.proofs.Makes.{lent_then}
 use Rattle.access.proofs.Goes.{stop_goes}
 use Rattle.access.proofs.Sequence.{then_runs, does_runs, stop_does}
 use Rattle.quad.specs.Quad.{standard_mode, quad_start, quad_steps}
@@ -51,7 +52,7 @@ closes_done ended {p} d =
 pub closes_failed : (ended : Result (Unit {0}) QspiError) {p r : RegisterBlock} {e : QspiError}
     → Goes standard_mode p r (Err e) → Closes ended p r (Err e)
 closes_failed ended {p} {r} {e} d =
-    let wins : eqb (error_number e) 0 ≡ false = ne_eqb _ _ (error_ne0 e) in
+    let wins : eqb (error_number e) 0 ≡ false = ne_eqb _ _ (not_done e) in
     record {
       lent = d.lent;
       sound = d.does.sound;

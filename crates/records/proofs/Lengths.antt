@@ -13,7 +13,7 @@ use Rattle.records.specs.declared.rules.Rules.TheVariants.{Sheet}
 use Rattle.records.specs.Rules.{cycles}
 use Rattle.records.specs.Check.{field, too_many, outside_of, too_long, extents_of, extents_fault, windows_fault}
 use Rattle.records.specs.Check.{record_fault, Checked, ahead, records_in, checked}
-use Rattle.records.specs.Laws.{EachFault, Each, Never6, Words, Never14, FaultNumbers}
+use Rattle.records.specs.Laws.{EachFault, Each, Never6, Words, Never14, OfFault, FaultNumbers}
 use Rattle.records.specs.declared.extent.Extent.{Extent}
 use Rattle.records.proofs.KindLaws.{neither}
 use Rattle.records.proofs.Holds.{checked_holds_of, any_record}
@@ -123,7 +123,7 @@ never_14 ws h memory =
     checked_each (λ n. n ≡ 14 → ⊥) Words Sheet memory ws (records_words _ ws h) (λ e. omega (arith, e)) (not_14 memory)
 
 number_of_which : (rules : Rules) (memory : ℕ) (r : List ℕ) (e : QspiError) → Which rules memory r e
-    → (error_number e ≡ 6) ⊎ (error_number e ≡ 8) ⊎ (error_number e ≡ 9) ⊎ (error_number e ≡ 14)
+    → OfFault (error_number e)
 unfolding Which
 number_of_which rules memory r e (inl p) = inr (inl (ap error_number p))
 number_of_which rules memory r e (inr (inl p)) = inr (inr (inl (ap error_number p)))
@@ -132,5 +132,5 @@ number_of_which rules memory r e (inr (inr (inr p))) = inr (inr (inr (ap error_n
 
 pub fault_numbers : FaultNumbers
 fault_numbers rules memory ws =
-    checked_each (λ n. (n ≡ 6) ⊎ (n ≡ 8) ⊎ (n ≡ 9) ⊎ (n ≡ 14)) (λ r. Unit {0}) rules memory ws (any_record _)
+    checked_each OfFault (λ r. Unit {0}) rules memory ws (any_record _)
     (inr (inl refl)) (λ r e w. number_of_which rules memory r e)

@@ -37,11 +37,13 @@ DelaysLast =
     (core_hz ns : ℕ) → let n = cycles (Transaction core_hz) ns in
     (ns * core_hz ≤ n * 1_000_000_000) × ((n ≡ 0 → ⊥) → (n - 1) * 1_000_000_000 < ns * core_hz)
 
--- a fault is 6, 8, 9 or 14
+-- the numbers of a fault
+abbrev pub OfFault : ℕ → Type 0
+OfFault n = (n ≡ 6) ⊎ (n ≡ 8) ⊎ (n ≡ 9) ⊎ (n ≡ 14)
+
+-- a fault has no other
 abbrev pub FaultNumbers : Type 0
-FaultNumbers =
-    (rules : Rules) (memory : ℕ) (words : List ℕ)
-    → EachFault (λ n. (n ≡ 6) ⊎ (n ≡ 8) ⊎ (n ≡ 9) ⊎ (n ≡ 14)) (checked rules memory words)
+FaultNumbers = (rules : Rules) (memory : ℕ) (words : List ℕ) → EachFault OfFault (checked rules memory words)
 
 -- each record on the chain is such
 abbrev pub Each : (List ℕ → Type 0) → List (List ℕ) → Type 0

@@ -10,7 +10,8 @@ use Rattle.access.specs.declared.block.RegisterBlock.{RegisterBlock}
 use Rattle.access.specs.Makes.{Lent}
 use Rattle.access.specs.Goes.{GoesOn}
 use Rattle.access.specs.Makes.{progress_of}
-use Rattle.access.proofs.Makes.{error_ne0, lent_then, lent_same}
+use Rattle.config.proofs.Laws.{not_done}
+use Rattle.access.proofs.Makes.{lent_then, lent_same}
 use Rattle.access.proofs.Through.{Through, through_starts, through_stops, through_done}
 use Rattle.transfer.specs.Transfer.{transfer_steps, part_steps, in_place_steps}
 use Rattle.transfer.proofs.Parts.{part_runs, in_place_ends, exchanging_more}
@@ -48,7 +49,7 @@ module _ {buf buf' : List ℕ} {p r s : RegisterBlock} {i len : ℕ} (on : Excha
   pub exchanging_ends : {a : QspiError} → GoesOn (part_steps 0 (length (take len (drop i buf')))) r
       (take len (drop i buf')) s part' (Err a)
       → GoesOn (in_place_steps 0 (length buf)) p buf s (take i buf' ++ (part' ++ drop len (drop i buf'))) (Err a)
-  exchanging_ends {a} d = record { lent = lent_then on.lent d.lent; runs = through_stops (exchanged d) (error_ne0 a) }
+  exchanging_ends {a} d = record { lent = lent_then on.lent d.lent; runs = through_stops (exchanged d) (not_done a) }
 
 pub all_exchanged : {buf buf' : List ℕ} {p r : RegisterBlock} {i : ℕ} → Exchanging buf p r buf' i → length buf ≤ i
     → GoesOn (in_place_steps 0 (length buf)) p buf r buf' (Ok tt)

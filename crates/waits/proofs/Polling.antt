@@ -24,7 +24,8 @@ use Rattle.access.specs.declared.progress.Tally.{Tally}
 use Rattle.access.specs.declared.block.RegisterBlock.{RegisterBlock}
 use Rattle.access.specs.Of.{tally_in, state_of}
 use Rattle.access.specs.Makes.{Lent, Queries, progress_at, stopped}
-use Rattle.access.proofs.Makes.{error_ne0, lent_then, lent_same}
+use Rattle.config.proofs.Laws.{not_done}
+use Rattle.access.proofs.Makes.{lent_then, lent_same}
 use Rattle.waits.specs.Does.{Polls}
 
 abbrev limit_of : RegisterBlock → ℕ
@@ -75,9 +76,9 @@ module _ {c : Cause} {t : Tally} {b : RegisterBlock} {t' : Tally} {b' : Register
             state = λ m k.
                 on.state m k
                 ∙ rw one_more (poll_stopped c k (end done) (limit_of b) _ n b.answers.words.now _ _ 0 (read q m)
-                (λ z. absurd (error_ne0 e z)) (error_ne0 e))
-                ∙ sym (skipped (k 0) (limit_of b) b.answers.words.now (at_block t' (Err e) r m) (error_ne0 e));
-            counts = λ z. absurd (error_ne0 e z);
+                (λ z. absurd (not_done e z)) (not_done e))
+                ∙ sym (skipped (k 0) (limit_of b) b.answers.words.now (at_block t' (Err e) r m) (not_done e));
+            counts = λ z. absurd (not_done e z);
           };
         }
 
@@ -141,7 +142,7 @@ module _ {c : Cause} {t : Tally} {b : RegisterBlock} {t' : Tally} {b' : Register
                   polling_unready e m k ∙ rw o
                   (poll_late c k (limit_of b) (n + 1) b.answers.words.now (at_block s (Ok tt) r m) refl)
                   ∙ sym (skipped (k 0) (limit_of b) b.answers.words.now (at_block s (Err Timeout) r m)
-                  (error_ne0 Timeout));
-              counts = λ z. absurd (error_ne0 Timeout z);
+                  (not_done Timeout));
+              counts = λ z. absurd (not_done Timeout z);
             };
           }
