@@ -1,7 +1,7 @@
 //! The agreed departures from the Rust: cases for which another answer of the port is due than the Rust's.
 
 use crate::delays::{Delay, delayed, delays};
-use crate::due::{CORE_RATE, refusal};
+use crate::due::{CORE_RATE, NO_CLOCK, refusal};
 use crate::leaves::{left, words};
 
 /// What is asked: the case line, and the number of the refusal that is due, or 0.
@@ -20,10 +20,15 @@ pub struct Departure {
 }
 
 /// A row each. The first that is about a case decides.
-const DEPARTURES: [Departure; 4] = [
+const DEPARTURES: [Departure; 5] = [
     Departure {
         name: "a core rate of 0, or a delay of too many cycles, the port refuses",
         about: |asked| asked.refused == CORE_RATE,
+        answer: |asked, _| refusal(asked.line, asked.refused),
+    },
+    Departure {
+        name: "an opening without an eligible module clock, the port refuses",
+        about: |asked| asked.refused == NO_CLOCK,
         answer: |asked, _| refusal(asked.line, asked.refused),
     },
     Departure {

@@ -2,9 +2,14 @@
 
 use crate::delays::{Delay, MOST};
 use crate::numbers::{Numbers, numbers};
+use std::ops::RangeInclusive;
 
 /// A core rate of 0 at an opening, or a delay of too many cycles (document 02, request 2).
 pub const CORE_RATE: u32 = 14;
+/// No module clock is eligible at an opening (document 02, request 13).
+pub const NO_CLOCK: u32 = 23;
+/// The rates of an eligible module clock, and by request 13 of an opened bus, in Hz.
+pub const RATES: RangeInclusive<u64> = 1..=100_000_000;
 
 /// What the records of a chain go by.
 #[derive(Clone, Copy)]
@@ -66,13 +71,19 @@ pub fn refusal(line: &str, number: u32) -> String {
     }
 }
 
+/// Whether the PLL divided by some m + 1, for m from 0 to 31, is an eligible module clock.
+fn has_clock(pll: u64) -> bool {
+    (0..=31).any(|m| RATES.contains(&(pll / (m + 1))))
+}
+
 fn open(f: &[u64]) -> u32 {
-    let [instance, mode, work, core_hz, qpi, limit] = [0, 1, 3, 13, 14, 15].map(|i| f[i]);
+    let [instance, mode, work, pll, core_hz, qpi, limit] = [0, 1, 3, 11, 13, 14, 15].map(|i| f[i]);
     let rules = [
         (mode == 1 || mode == 3, 3),
         (instance > 3, 4),
         (work == 6 && qpi == 0, 5),
         (core_hz == 0, CORE_RATE),
+        (!has_clock(pll), NO_CLOCK),
         (limit == 0, 7),
     ];
     rules.iter().find(|rule| rule.0).map_or(0, |rule| rule.1)
@@ -170,17 +181,21 @@ fn record(r: &[u64], rules: Rules, memory: u64) -> u32 {
 
 #[cfg(test)]
 mod tests {
-    use super::due;
+    use super::{due, has_clock};
 
     #[test]
     fn calls() {
         for (line, number) in [
-            ("open 9 3 1 6 0 0 0 0 0 0 1 1 1 0 0 0 9 0", 3),
-            ("open 4 2 1 6 0 0 0 0 0 0 1 1 1 0 0 0 9 0", 4),
-            ("open 3 0 1 6 0 0 0 0 0 0 1 1 1 0 0 0 9 0", 5),
-            ("open 3 0 1 6 0 0 0 0 0 0 1 1 1 0 1 0 9 0", 14),
+            ("open 9 3 1 6 0 0 0 0 0 0 1 0 1 0 0 0 9 0", 3),
+            ("open 4 2 1 6 0 0 0 0 0 0 1 0 1 0 0 0 9 0", 4),
+            ("open 3 0 1 6 0 0 0 0 0 0 1 0 1 0 0 0 9 0", 5),
+            ("open 3 0 1 6 0 0 0 0 0 0 1 0 1 0 1 0 9 0", 14),
+            ("open 3 0 1 6 0 0 0 0 0 0 1 0 1 1 1 0 9 0", 23),
             ("open 3 0 1 6 0 0 0 0 0 0 1 1 1 1 1 0 9 0", 7),
             ("open 3 0 1 5 0 0 0 0 0 0 1 1 1 0 0 1 9 0", 14),
+            ("open 3 0 1 5 0 0 0 0 0 0 1 0 1 1 0 1 9 0", 23),
+            ("open 3 0 1 5 0 0 0 0 0 0 1 3200000032 1 1 0 1 9 0", 23),
+            ("open 3 0 1 5 0 0 0 0 0 0 0 3200000031 0 1 0 1 9 0", 0),
             ("open 3 0 1 5 0 0 0 0 0 0 1 1 1 1 0 1 9 0", 0),
             ("write 0 0 0x1000000 0 0", 7),
             ("write 1 0 0x1000000 0 0", 6),
@@ -201,6 +216,18 @@ mod tests {
         ] {
             assert_eq!(due(line), Some(number), "{line}");
         }
+    }
+
+    /// By the request none is eligible at a PLL of 0, and from 3,200,000,032 on. The least m with an eligible clock
+    /// grows just above each multiple of 100,000,000.
+    #[test]
+    fn clocks() {
+        for multiple in (0..=4_200_000_000).step_by(100_000_000) {
+            for pll in multiple..multiple + 50 {
+                assert_eq!(has_clock(pll), pll != 0 && pll < 3_200_000_032, "{pll}");
+            }
+        }
+        assert!(!has_clock(u32::MAX.into()));
     }
 
     /// Chains of two records on a long memory: the first given, the second of an unknown kind.

@@ -11,6 +11,10 @@ pub const NAMES: [&str; 16] = [
     "clock", "sck", "dummy", "sheet", "print",
 ];
 
+/// PLLs at the bounds of those with an eligible module clock, and targets at the bounds that an opening clamps them to.
+const PLLS: [u32; 6] = [0, 1, 99, 3_200_000_031, 3_200_000_032, u32::MAX];
+const TARGETS: [u32; 5] = [0, 99_999, 100_000, 100_000_000, u32::MAX];
+
 const HUGE: [usize; 3] = [0xFF_FFFF, 0x100_0000, 0x100_0001];
 
 /// One case line of the given name.
@@ -143,8 +147,10 @@ fn open(rng: &mut Rng) -> String {
     let [mode, master, bit, lsb, select, polarity, level, pin] = [(); 8].map(|_| rng.below(2));
     let mode = 2 * mode + usize::from(rng.once_in(12));
     let (work, qpi) = (rng.below(7), usize::from(!rng.once_in(4)));
-    let pll = pll(rng);
-    let freq = target(rng, pll);
+    let (any, bound) = (pll(rng), rng.pick(&PLLS));
+    let pll = rng.pick(&[any, any, any, bound]);
+    let (any, bound) = (target(rng, pll), rng.pick(&TARGETS));
+    let freq = rng.pick(&[any, any, bound]);
     let near = rng.near(freq);
     let osc = rng.pick(&[24_000_000, near, near, pll, 0, u32::MAX]);
     let mut before = format!("open {} {mode} {master} {work} {bit} {lsb}", instance(rng));

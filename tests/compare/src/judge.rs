@@ -1,7 +1,8 @@
 //! The two answers of one case, side by side (document 01, demand 2).
 
+use crate::compare::number;
 use crate::departures::{Asked, departure};
-use crate::due::due;
+use crate::due::{RATES, due};
 
 #[derive(Clone, Copy, Debug, PartialEq, Eq)]
 pub enum Verdict {
@@ -9,6 +10,12 @@ pub enum Verdict {
     /// Another answer than the Rust's is due, by the departure of this name, and the port gave it.
     Excluded(&'static str),
     Different,
+}
+
+/// Whether a bus that was opened has a rate that it may have, whatever the Rust gives it (document 02, request 13).
+fn rate_allowed(port: &str) -> bool {
+    let mut rates = port.lines().filter_map(|l| l.strip_prefix("rate "));
+    number(port) != Some(0) || rates.all(|hz| hz.parse().is_ok_and(|hz| RATES.contains(&hz)))
 }
 
 /// The port must give the Rust's answer, or where an agreed departure is about the case the one that is due by it.
@@ -19,7 +26,7 @@ pub fn judge(line: &str, oracle: &str, port: &str) -> Verdict {
     let departure = departure(Asked { line, refused }, oracle);
     let due = departure.as_ref().map_or(oracle, |(_, answer)| answer);
     match &departure {
-        _ if port != due => Verdict::Different,
+        _ if port != due || !rate_allowed(port) => Verdict::Different,
         Some((name, _)) if port != oracle => Verdict::Excluded(name),
         _ => Verdict::Same,
     }
@@ -128,6 +135,58 @@ mod tests {
             (delay(u32::MAX, 1_000_000_000), delayed, "end 14 0 0 0 0\n", Different),
         ] {
             assert_eq!(judge(&line, oracle, port), verdict, "{line}: {port}");
+        }
+    }
+
+    /// At the PLLs next to the bounds; the Rust opens at each.
+    #[test]
+    fn refused_by_23() {
+        let refused = Excluded("an opening without an eligible module clock, the port refuses");
+        let before = Excluded("a core rate of 0, or a delay of too many cycles, the port refuses");
+        let other = Excluded("the Rust panics or has no form, the port refuses");
+        let open = |work, pll: u32, [core_hz, qpi, limit]: [u32; 3]| {
+            format!("open 0 0 1 {work} 0 0 0 0 0 0 1 {pll} 1 {core_hz} {qpi} {limit} 0 0")
+        };
+        let opened = "end 0 1 1 0 0\nrate 5\n";
+        let [by_5, by_7, by_14, by_23] = [5, 7, 14, 23].map(|n| format!("end {n} 0 0 0 0\nrate 0\n"));
+        for (line, port, verdict) in [
+            (open(0, 0, [1, 1, 1]), by_23.as_str(), refused),
+            (open(0, 3_200_000_032, [1, 1, 1]), &by_23, refused),
+            (open(0, u32::MAX, [1, 1, 1]), &by_23, refused),
+            (open(0, 0, [1, 1, 1]), opened, Different),
+            (open(0, 3_200_000_032, [1, 1, 1]), opened, Different),
+            (open(0, 0, [1, 1, 1]), "end 23 0 0 0 0\nrate 5\n", Different),
+            (open(0, 1, [1, 1, 1]), opened, Same),
+            (open(0, 3_200_000_031, [1, 1, 1]), opened, Same),
+            (open(0, 1, [1, 1, 1]), &by_23, Different),
+            (open(0, 3_200_000_031, [1, 1, 1]), &by_23, Different),
+            (open(0, 0, [1, 1, 0]), &by_23, refused),
+            (open(0, 0, [1, 1, 0]), &by_7, Different),
+            (open(0, 1, [1, 1, 0]), &by_7, other),
+            (open(0, 0, [0, 1, 0]), &by_14, before),
+            (open(0, 0, [0, 1, 0]), &by_23, Different),
+            (open(6, 0, [1, 0, 0]), &by_5, other),
+            (open(6, 0, [1, 0, 0]), &by_23, Different),
+        ] {
+            assert_eq!(judge(&line, opened, port), verdict, "{line}: {port}");
+        }
+    }
+
+    /// Both sides give the same rate. One that no opened bus may have is a difference, unless the bus was not opened.
+    #[test]
+    fn rates_of_an_opening() {
+        let line = "open 0 0 1 0 0 0 0 0 0 0 1 1 1 1 1 1 0 0";
+        for (number, rate, verdict) in [
+            (0, "0", Different),
+            (0, "1", Same),
+            (0, "100000000", Same),
+            (0, "100000001", Different),
+            (0, "3200000032", Different),
+            (0, "x", Different),
+            (10, "0", Same),
+        ] {
+            let answer = format!("end {number} 1 1 0 0\nrate {rate}\n");
+            assert_eq!(judge(line, &answer, &answer), verdict, "{answer}");
         }
     }
 }

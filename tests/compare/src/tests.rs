@@ -4,7 +4,7 @@ use crate::cases::cases;
 use crate::child::Child;
 use crate::compare::number;
 use crate::delays::{Delay, MOST, delayed, delays};
-use crate::due::{CORE_RATE, due};
+use crate::due::{CORE_RATE, NO_CLOCK, due};
 use crate::generate::NAMES;
 use std::collections::{BTreeMap, BTreeSet};
 use std::sync::Arc;
@@ -121,4 +121,54 @@ fn openings_at_no_core_rate_are_reached() {
     assert_eq!(numbers, BTreeSet::from([3, 4, 5, CORE_RATE]));
     let limit_0 = |line: &&&String| due(line) == Some(CORE_RATE) && line.split(' ').nth(16) == Some("0");
     assert!(at_none.iter().any(|line| limit_0(&line)), "{}", at_none.len());
+}
+
+/// The numbers of each opening up to its limit, and the number that is due.
+fn openings() -> Vec<([u32; 16], u32)> {
+    let numbers = |line: &str| -> Vec<u32> { line.split(' ').skip(1).take(16).map(|n| n.parse().unwrap()).collect() };
+    made_only("8000", "open").iter().map(|line| (numbers(line).try_into().unwrap(), due(line).unwrap())).collect()
+}
+
+/// Each named PLL, and others, come up with each named target, and others, where nothing but the PLL is refused; with
+/// each named PLL, every value of each setting.
+#[test]
+fn plls_targets_and_settings_are_reached() {
+    let plls = [0, 1, 99, 3_200_000_031, 3_200_000_032, u32::MAX];
+    let targets = [0, 99_999, 100_000, 100_000_000, u32::MAX];
+    let named = |n, names: &[u32]| names.contains(&n).then_some(n);
+    let all: Vec<[u32; 16]> =
+        openings().iter().filter(|(_, due)| [0, NO_CLOCK].contains(due)).map(|(f, _)| *f).collect();
+    let pairs: BTreeSet<_> = all.iter().map(|f| (named(f[11], &plls), named(f[10], &targets))).collect();
+    assert_eq!(pairs.len(), 7 * 6, "{pairs:?}");
+    for pll in plls {
+        // Instance, SPI mode, role, work mode, seven flags.
+        let values = [4, 2, 2, 7, 2, 2, 2, 2, 2, 2, 2];
+        for (setting, values) in [0, 1, 2, 3, 4, 5, 6, 7, 8, 9, 14].into_iter().zip(values) {
+            let reached: BTreeSet<u32> = all.iter().filter(|f| f[11] == pll).map(|f| f[setting]).collect();
+            assert_eq!(reached.len(), values, "PLL {pll}, number {setting}: {reached:?}");
+        }
+    }
+}
+
+/// A core rate of 0, a PLL without a clock, as the request names them, and a limit of 0 meet in every way; 3, 4 and 5
+/// come before them.
+#[test]
+fn refusals_of_an_opening_meet() {
+    let no_clock = |pll: u32| pll == 0 || pll >= 3_200_000_032;
+    let met: BTreeSet<([bool; 3], u32)> =
+        openings().iter().map(|(f, due)| ([f[13] == 0, no_clock(f[11]), f[15] == 0], *due)).collect();
+    let later: Vec<_> = met.iter().copied().filter(|(_, due)| ![3, 4, 5].contains(due)).collect();
+    let due = [
+        ([false, false, false], 0),
+        ([false, false, true], 7),
+        ([false, true, false], NO_CLOCK),
+        ([false, true, true], NO_CLOCK),
+        ([true, false, false], CORE_RATE),
+        ([true, false, true], CORE_RATE),
+        ([true, true, false], CORE_RATE),
+        ([true, true, true], CORE_RATE),
+    ];
+    assert_eq!(later, due);
+    let without: BTreeSet<u32> = met.iter().filter(|(wrong, _)| wrong[1]).map(|met| met.1).collect();
+    assert_eq!(without, BTreeSet::from([3, 4, 5, CORE_RATE, NO_CLOCK]));
 }

@@ -294,6 +294,17 @@ mod tests {
         }
     }
 
+    /// An opening is refused by 23 at the PLLs that no module clock is eligible for, and not at those next to them.
+    #[test]
+    fn plls() {
+        for (pll, number) in [(0, 23), (1, 11), (3_200_000_031, 11), (3_200_000_032, 23), (u32::MAX, 23)] {
+            let (line, mut out) =
+                (format!("open 2 0 1 0 0 0 0 0 0 0 10000000 {pll} 24000000 1 0 1 9 0"), String::new());
+            let due = format!("end {number} 0 0 0 0\nrate 0\n");
+            assert_eq!((answer(&line, &mut out), out), (Ok(()), due), "{line}");
+        }
+    }
+
     /// A read that writes a byte that it did not receive, or a word past its last entry.
     #[test]
     fn what_must_not_be_written_shows() {

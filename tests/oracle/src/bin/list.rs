@@ -406,11 +406,39 @@ fn core_rates(l: &mut List) {
     }
 }
 
+/// Openings at PLLs with and without an eligible module clock, each at targets at both bounds and beyond them.
+fn module_clocks(l: &mut List) {
+    let plls = [0, 1, 99, 3_200_000_031, 3_200_000_032, u32::MAX];
+    let pairs = plls.iter().flat_map(|pll| [0, 99_999, 100_000, 100_000_000, u32::MAX].map(|freq| (pll, freq)));
+    for (work, (pll, freq)) in (0..7).cycle().zip(pairs) {
+        let instance = l.random.below(4);
+        let [mode, master, bit, lsb, select, polarity, level, pin, chip] = [(); 9].map(|()| l.random.below(2));
+        let (mode, chip, plan) = (2 * mode, if work == 6 { 1 } else { chip }, l.plan(&[0], 64));
+        let head = format!("open {instance} {mode} {master} {work} {bit} {lsb} {select} {polarity} {level} {pin}");
+        l.planned(&format!("{head} {freq} {pll} 24000000 {CORE} {chip} 5"), ENOUGH, "", &plan);
+    }
+}
+
+/// Openings without an eligible module clock, with what else is refused.
+fn no_clock(l: &mut List) {
+    let nine = "9 1 2 3 4 5 6 7 8 9";
+    for (pll, limit) in [(0, 5), (3_200_000_032_u32, 0)] {
+        let rates = format!("10000000 {pll} 24000000");
+        for first in ["1 1 1 0", "3 3 0 4", "4 0 1 0", "4294967295 2 1 1"] {
+            l.call(&format!("open {first} 0 0 0 0 0 0 {rates} {CORE} 1 {limit} 60 {nine}"));
+        }
+        for (core, chip) in [(0, 0), (CORE, 0), (0, 1), (CORE, 1)] {
+            l.call(&format!("open 2 2 1 6 0 0 0 0 0 0 {rates} {core} {chip} {limit} 60 {nine}"));
+        }
+    }
+}
+
 fn main() -> Result<(), String> {
     let mut l = List { cases: Vec::new(), random: Random(1) };
     let parts = [
         ready_transfers, slow_transfers, cut_transfers, modes, slow_quads, cut_quads, ready_quads, chains, openings,
-        releases, clocks, dummies, sheets, delays, longest_delays, too_long_delays, core_rates,
+        releases, clocks, dummies, sheets, delays, longest_delays, too_long_delays, core_rates, module_clocks,
+        no_clock,
     ];
     parts.iter().for_each(|part| part(&mut l));
     // A panic of the driver is an answer.
