@@ -10,7 +10,7 @@
  *
  * Numbers. A call gives a number (enum qspi_number) and writes its counts (struct qspi_counts); an opening writes its
  * rate (*sck_hz) too, which is 0 unless the number is 0. For all else that was lent, there are two ways to end:
- *   refused    (3 to 9, 13, 14) all counts are 0, and nothing is written;
+ *   refused    (3 to 9, 13, 14, 23) all counts are 0, and nothing is written;
  *   otherwise  (0, 1, 2, 10, 11) the first 2 x entries words of the log are written, and each byte that was got is stored.
  *              All other words and bytes keep their values.
  * 10 and 11 are given at an access: where the next entry does not fit the log (10), or where it would be a read or a
@@ -62,7 +62,8 @@ enum qspi_number {
     QSPI_ANSWERS = 11,    /* answers used up */
     QSPI_DIVIDER = 12,    /* no divider; of qspi_actual_sck alone */
     QSPI_SHEET = 13,      /* bytes that are no sheet */
-    QSPI_CYCLES = 14      /* core rate 0 at an opening, or a delay of more than 2^32 - 1 cycles */
+    QSPI_CYCLES = 14,     /* core rate 0 at an opening, or a delay of more than 2^32 - 1 cycles */
+    QSPI_NO_CLOCK = 23    /* opening without an eligible module clock: a PLL of 0, or of 3,200,000,032 and more */
 };
 
 /* The counts of a call: all 0 where it is refused. */
@@ -132,7 +133,8 @@ enum qspi_kind {
 /*
  * Opens the bus of an instance (0 to 3): module clock, reset, dividers, control mode, transfer settings, work mode, FIFOs.
  *   qpi                          the chip has QPI
- *   pll_hz, osc_hz               the rates that the module clock and the oscillator have
+ *   pll_hz                       the PLL's rate, which the module clock is divided from
+ *   osc_hz                       the oscillator's rate
  *   core_hz                      the core rate, the one to give to each qspi_transaction on this bus
  *   freq                         target rate; taken as 100,000 to 100,000,000, the nearest rate is chosen
  *   idle_high, second_transition the SPI mode: the clock's idle level, and the transition on which data is captured
@@ -141,9 +143,11 @@ enum qspi_kind {
  *   bit_mode, lsb_first          bit mode enabled; least significant bit first
  *   cs                           there is a chip-select record; without one the next three are not looked at
  *   cs_idle_high, cs_high, cs_1  its polarity, its level, and pin 1 in place of pin 0
- * Gives 8 for a work mode above 6, 3 for second_transition (SPI modes 1 and 3), 4, 5, 14 for core rate 0, 7, the first
- * of these that holds; at an access: 10, 11; else 0.
- * Writes *sck_hz always: the bus's rate with 0, else 0. There is no wait: polls and longest are 0.
+ * Gives 8 for a work mode above 6, 3 for second_transition (SPI modes 1 and 3), 4, 5, 14 for core rate 0, 23 where no
+ * module clock is from 1 to 100,000,000 Hz (pll_hz 0, or 3,200,000,032 and more), 7, the first of these that holds; at
+ * an access: 10, 11; else 0.
+ * Writes *sck_hz always: with 0 the bus's rate, from 1 to 100,000,000 Hz, else 0. There is no wait: polls and longest
+ * are 0.
  */
 uint32_t qspi_open(uint32_t limit, uint32_t *log, size_t log_len, const uint32_t *answers, size_t answers_len,
                    uint32_t instance, bool qpi, uint32_t pll_hz, uint32_t osc_hz, uint32_t core_hz, uint32_t freq,
@@ -244,8 +248,8 @@ uint32_t qspi_transaction(uint32_t limit, uint32_t core_hz, uint32_t *log, size_
                           size_t words_len, struct qspi_counts *counts);
 
 /*
- * Runs a whole sheet: little-endian words limit, rate, QPI (0 or 1), record count, answer count; the records, of kinds 1 to
- * 9; the answers; all bytes behind them are the memory that the chain works on.
+ * Runs a whole sheet: little-endian words limit, rate (any), QPI (0 or 1), record count, answer count; the records, of
+ * kinds 1 to 9; the answers; all bytes behind them are the memory that the chain works on.
  * Gives 13 for bytes that are no sheet (more than QSPI_SHEET_BYTES, fewer than the header or its counts need, a QPI word
  * above 1), before anything else; 7 for limit 0; 8, 9 along the chain; then as met at an access: 10, 11, or 1 in a wait; 2
  * for the work mode QPI on a chip without it; else 0. A sheet's memory is too short for 6, and half of a delay's
@@ -257,8 +261,9 @@ uint32_t qspi_sheet(uint8_t *bytes, size_t bytes_len, uint32_t *log, size_t log_
 
 /*
  * The dividers whose rate is nearest to a target, any 32-bit number: among equally near ones one not above the target, among
- * those the first, by module divider, Cdr1 before Cdr2, count. Where no module clock is from 1 to 100,000,000 Hz: 0, Cdr1, 0.
- * Refuses nothing. Writes *mod_div (0 to 31), *kind (enum qspi_divider) and *count.
+ * those the first, by module divider, Cdr1 before Cdr2, count. Where no module clock is from 1 to 100,000,000 Hz, which
+ * an opening refuses by 23: 0, Cdr1, 0. Refuses nothing itself. Writes *mod_div (0 to 31), *kind (enum qspi_divider)
+ * and *count.
  */
 void qspi_select_clock(uint32_t pll, uint32_t target, uint32_t *mod_div, uint32_t *kind, uint32_t *count);
 

@@ -51,7 +51,7 @@ pub struct Opening {
     pub instance: u32,
     /// The chip has QPI.
     pub qpi: bool,
-    /// The rate that the module clock is divided from.
+    /// The rate that the module clock is divided from; 0, and 3,200,000,032 and more, are refused by 23.
     pub pll_hz: u32,
     /// The oscillator's rate.
     pub osc_hz: u32,
@@ -75,7 +75,8 @@ pub struct Opening {
     pub cs: Option<[bool; 3]>,
 }
 
-/// Opens a bus: how that ended, and the rate, which is 0 unless the number is 0.
+/// Opens a bus: how that ended, and the rate, which is from 1 to 100,000,000 Hz with the number 0, else 0. Gives 0, 3,
+/// 4, 5, 7, 8, 10, 11, 14 or 23.
 pub fn open(lent: &mut Lent, o: &Opening) -> (Ended, u32) {
     let mut sck_hz = u32::MAX;
     let [cs_idle_high, cs_high, cs_1] = o.cs.unwrap_or_default();
@@ -192,7 +193,8 @@ pub fn sheet(bytes: &mut [u8], log: &mut [u32]) -> Ended {
     counted(|counts| unsafe { ffi::qspi_sheet(bytes.as_mut_ptr(), bytes.len(), log.as_mut_ptr(), log.len(), counts) })
 }
 
-/// The dividers nearest to a target: the module divider, the kind (1 Cdr1, 2 Cdr2) and its count.
+/// The dividers nearest to a target: the module divider, the kind (1 Cdr1, 2 Cdr2) and its count. Where no module clock
+/// is from 1 to 100,000,000 Hz, which an opening refuses by 23: 0, 1, 0.
 pub fn select_clock(pll: u32, target: u32) -> (u32, u32, u32) {
     let (mut mod_div, mut kind, mut count) = (u32::MAX, 0, u32::MAX);
     ffi::qspi_select_clock(pll, target, &mut mod_div, &mut kind, &mut count);

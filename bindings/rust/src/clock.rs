@@ -47,7 +47,8 @@ impl Choice {
     }
 }
 
-/// The dividers whose rate is nearest to a target.
+/// The dividers whose rate is nearest to a target. Where no module clock is from 1 to 100,000,000 Hz, which an opening
+/// refuses by 23: module divider 0 and `Cdr1(0)`.
 pub fn select_clock(pll_hz: u32, target: u32) -> Choice {
     let numbers = by_number::select_clock(pll_hz, target);
     Choice::from_numbers(numbers).expect("the library is proved to choose dividers")

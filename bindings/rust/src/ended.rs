@@ -36,27 +36,30 @@ pub enum Number {
     Sheet,
     /// 14: core rate 0 at an opening, or a delay of more than 2³² − 1 cycles.
     Cycles,
+    /// 23: no eligible module clock at an opening: a PLL of 0, or of 3,200,000,032 Hz and more.
+    NoClock,
     /// Any other: the library is proved to give none.
     Unknown(u32),
 }
 
-/// The numbers in order, with their meaning.
-const MEANINGS: [(Number, &str); 15] = [
-    (Number::Done, "done"),
-    (Number::Timeout, "timeout"),
-    (Number::Unsupported, "unsupported"),
-    (Number::SpiMode, "SPI mode 1 or 3"),
-    (Number::Instance, "instance above 3"),
-    (Number::Qpi, "QPI at opening on a chip without it"),
-    (Number::Length, "length above FFFFFF hex in one phase"),
-    (Number::Limit, "limit 0"),
-    (Number::Chain, "no chain, or no work mode"),
-    (Number::Window, "window outside memory"),
-    (Number::Log, "log used up"),
-    (Number::Answers, "answers used up"),
-    (Number::Divider, "no divider"),
-    (Number::Sheet, "no sheet"),
-    (Number::Cycles, "core rate 0 at opening, or a delay above FFFFFFFF hex cycles"),
+/// The known numbers in order, each with its name and its meaning.
+const MEANINGS: &[(u32, Number, &str)] = &[
+    (0, Number::Done, "done"),
+    (1, Number::Timeout, "timeout"),
+    (2, Number::Unsupported, "unsupported"),
+    (3, Number::SpiMode, "SPI mode 1 or 3"),
+    (4, Number::Instance, "instance above 3"),
+    (5, Number::Qpi, "QPI at opening on a chip without it"),
+    (6, Number::Length, "length above FFFFFF hex in one phase"),
+    (7, Number::Limit, "limit 0"),
+    (8, Number::Chain, "no chain, or no work mode"),
+    (9, Number::Window, "window outside memory"),
+    (10, Number::Log, "log used up"),
+    (11, Number::Answers, "answers used up"),
+    (12, Number::Divider, "no divider"),
+    (13, Number::Sheet, "no sheet"),
+    (14, Number::Cycles, "core rate 0 at opening, or a delay above FFFFFFFF hex cycles"),
+    (23, Number::NoClock, "no eligible module clock at opening"),
 ];
 
 impl Number {
@@ -65,26 +68,26 @@ impl Number {
         if let Number::Unknown(n) = self {
             return n;
         }
-        let place = MEANINGS.iter().position(|&(known, _)| known == self);
-        place.map_or(u32::MAX, |n| n as u32)
+        let found = MEANINGS.iter().find(|&&(_, known, _)| known == self);
+        found.map_or(u32::MAX, |&(n, ..)| n)
     }
 
     /// What it means, in a few words.
     pub fn meaning(self) -> &'static str {
-        let found = MEANINGS.iter().find(|&&(known, _)| known == self);
-        found.map_or("unknown", |&(_, meaning)| meaning)
+        let found = MEANINGS.iter().find(|&&(_, known, _)| known == self);
+        found.map_or("unknown", |&(.., meaning)| meaning)
     }
 
-    /// Whether it says that the call was refused before anything was done: 3 to 9, and 12 to 14.
+    /// Whether it says that the call was refused before anything was done: 3 to 9, 12 to 14, and 23.
     pub fn is_refusal(self) -> bool {
-        matches!(self.get(), 3..=9 | 12..=14)
+        matches!(self.get(), 3..=9 | 12..=14 | 23)
     }
 }
 
 impl From<u32> for Number {
     fn from(n: u32) -> Self {
-        let known = MEANINGS.get(n as usize);
-        known.map_or(Number::Unknown(n), |&(number, _)| number)
+        let found = MEANINGS.iter().find(|&&(known, ..)| known == n);
+        found.map_or(Number::Unknown(n), |&(_, number, _)| number)
     }
 }
 
@@ -146,23 +149,30 @@ mod tests {
 
     #[test]
     fn every_number_is_itself() {
-        for n in [0, 1, 2, 3, 4, 5, 6, 7, 8, 9, 10, 11, 12, 13, 14, 15, u32::MAX] {
-            assert_eq!(Number::from(n).get(), n);
+        for &(n, number, meaning) in MEANINGS {
+            assert_eq!((Number::from(n), number.get(), number.meaning()), (number, n, meaning));
         }
+        assert!(MEANINGS.windows(2).all(|two| two[0].0 < two[1].0));
+        assert_eq!(Number::from(0), Number::Done);
         assert_eq!(Number::from(13), Number::Sheet);
         assert_eq!(Number::from(14), Number::Cycles);
-        assert_eq!(Number::from(15), Number::Unknown(15));
+        assert_eq!(Number::from(23), Number::NoClock);
+        for n in (15..=22).chain([24, u32::MAX]) {
+            assert_eq!(Number::from(n), Number::Unknown(n));
+            assert_eq!(Number::from(n).get(), n);
+        }
     }
 
     #[test]
     fn refusals() {
-        let refusals: Vec<u32> = (0..20).filter(|&n| Number::from(n).is_refusal()).collect();
-        assert_eq!(refusals, [3, 4, 5, 6, 7, 8, 9, 12, 13, 14]);
+        let refusals: Vec<u32> = (0..40).filter(|&n| Number::from(n).is_refusal()).collect();
+        assert_eq!(refusals, [3, 4, 5, 6, 7, 8, 9, 12, 13, 14, 23]);
     }
 
     #[test]
     fn shown() {
         assert_eq!(Number::Log.to_string(), "log used up (10)");
+        assert_eq!(Number::NoClock.to_string(), "no eligible module clock at opening (23)");
         assert_eq!(Number::Unknown(99).to_string(), "unknown (99)");
         let counts = Counts { entries: 15, taken: 8, polls: 3, longest: 0 };
         let ended = |number| Ended { number, counts };

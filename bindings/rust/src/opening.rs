@@ -163,7 +163,7 @@ pub struct Opening {
     pub instance: u32,
     /// The chip has QPI.
     pub qpi: bool,
-    /// The rate that the module clock is divided from.
+    /// The rate that the module clock is divided from; 0, and 3,200,000,032 and more, are refused by 23.
     pub pll_hz: u32,
     /// The oscillator's rate.
     pub osc_hz: u32,
@@ -198,7 +198,7 @@ impl Opening {
 /// An opened bus: what its calls go by. It is plain data, and one that is made by hand is taken as it is.
 #[derive(Clone, Copy, Debug, PartialEq, Eq, Hash)]
 pub struct Bus {
-    /// Its rate in Hz, for the dummies of a quad read.
+    /// Its rate in Hz, for the dummies of a quad read. That of an opening is from 1 to 100,000,000.
     pub sck_hz: u32,
     /// The core rate in Hz, for the delays of a transaction. At 0, which no opening takes, each has 0 cycles.
     pub core_hz: u32,
@@ -231,7 +231,8 @@ pub struct Opened {
     pub bus: Option<Bus>,
 }
 
-/// Opens a bus. Gives 0, 3, 4, 5, 7, 10, 11 or 14.
+/// Opens a bus, whose rate is from 1 to 100,000,000 Hz. Gives 0, 3, 4, 5, 7, 10, 11, 14 or 23; of several refusals the
+/// first of 3, 4, 5, 14, 23, 7.
 pub fn open(lent: &mut Lent, opening: &Opening) -> Opened {
     let (ended, sck_hz) = by_number::open(lent, &opening.numbered());
     let bus = Bus { sck_hz, core_hz: opening.core_hz };

@@ -13,7 +13,7 @@ pub const SHEET_LOG_WORDS: usize = 8_192;
 pub struct Sheet<'a> {
     /// The limit of unready polls in one wait.
     pub limit: u32,
-    /// The rate of the bus in Hz, for the dummies of a quad read.
+    /// The rate of the bus in Hz, for the dummies of a quad read. A sheet opens no bus, and takes any.
     pub rate: u32,
     /// The chip has QPI.
     pub qpi: bool,

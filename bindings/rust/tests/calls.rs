@@ -156,6 +156,18 @@ fn a_sheet_of_every_kind() {
     assert_eq!(bytes[..sheet.memory_start()], sheet.bytes()[..sheet.memory_start()]);
 }
 
+/// A sheet opens no bus and takes any rate: a quad read goes by it, with 0, 1, 2 and at most 8 dummies here.
+#[test]
+fn a_sheet_at_any_rate() {
+    let operations = [SheetOperation::QuadRead { command: window(0, 1), tclqv_ns: 80, margin: 0, data: window(1, 1) }];
+    for (rate, entries) in [(0, 39), (1, 40), (100_000_000, 40), (100_000_001, 41), (u32::MAX, 47)] {
+        let (answers, memory) = (&[1; 22], &[0x6b, 0xEE]);
+        let sheet = qspi::Sheet { limit: 3, rate, qpi: false, operations: &operations, answers, memory };
+        let (end, _) = called(3, 100, &[], |lent| qspi::sheet(&mut sheet.bytes(), lent.log));
+        assert_eq!(end, format!("end 0 {entries} 22 7 0"), "{rate}");
+    }
+}
+
 #[test]
 fn write() {
     let (end, entries) = called(3, 31, &[0; 8], |lent| qspi::write(lent, &[0x9f]));
@@ -350,6 +362,35 @@ fn an_opened_bus_delays_by_its_core_rate() {
     }
 }
 
+/// Next to a PLL without an eligible module clock too, and whatever the target.
+#[test]
+fn an_opened_bus_has_a_rate_from_1_to_100_mhz() {
+    for (pll_hz, freq, sck_hz) in [
+        (1, 0, 1),
+        (1, 10_000_000, 1),
+        (1, u32::MAX, 1),
+        (100_000, 0, 100_000),
+        (100_000_000, u32::MAX, 100_000_000),
+        (100_000_001, u32::MAX, 50_000_000),
+        (3_200_000_031, 0, 97_656),
+        (3_200_000_031, 10_000_000, 10_000_000),
+        (3_200_000_031, u32::MAX, 100_000_000),
+    ] {
+        let config = Config { freq, ..Config::default() };
+        let (bus, end, _) = opened(200, 20, Opening { pll_hz, config, ..opening() });
+        assert_eq!((bus, end.as_str()), (Some(Bus { sck_hz, core_hz: CORE_HZ }), "end 0 30 13 0 0"), "{pll_hz} {freq}");
+        let choice = qspi::select_clock(pll_hz, freq.clamp(100_000, 100_000_000));
+        assert_eq!(qspi::actual_sck(pll_hz, choice), Ok(sck_hz));
+    }
+    // Around each multiple of the least rate that is too high for a module clock.
+    for n in 1..=31 {
+        for pll_hz in [n * 100_000_001 - 1, n * 100_000_001] {
+            let (bus, ..) = opened(200, 20, Opening { pll_hz, config: Config::nor_flash(), ..opening() });
+            assert!((1..=100_000_000).contains(&bus.unwrap().sck_hz), "{pll_hz}");
+        }
+    }
+}
+
 /// All that an opening on zero answers writes at a place.
 fn written(place: u16, opening: Opening) -> u32 {
     let (_, entries) = called(1, 200, &[0; 20], |lent| qspi::open(lent, &opening).ended);
@@ -418,15 +459,18 @@ fn refused(limit: u32, call: impl FnOnce(&mut Lent) -> Ended) -> u32 {
     number.get()
 }
 
+/// The number of an opening that is refused: it has no bus.
+fn opening_refused(limit: u32, opening: Opening) -> u32 {
+    refused(limit, |lent| {
+        let opened = qspi::open(lent, &opening);
+        assert_eq!(opened.bus, None);
+        opened.ended
+    })
+}
+
 #[test]
 fn openings_refused() {
-    let refused = |limit, opening: Opening| {
-        refused(limit, |lent| {
-            let opened = qspi::open(lent, &opening);
-            assert_eq!(opened.bus, None);
-            opened.ended
-        })
-    };
+    let refused = opening_refused;
     let with = |config| Opening { config, ..opening() };
     let mode = |mode| with(Config { mode, ..Config::default() });
     assert_eq!(refused(1, mode(SpiMode::Mode1)), 3);
@@ -436,36 +480,86 @@ fn openings_refused() {
     assert_eq!(refused(1, no_qpi), 5);
     assert_eq!(refused(1, Opening { core_hz: 0, ..opening() }), 14);
     assert_eq!(refused(0, opening()), 7);
-    // 3 before 4 before 5 before 14 before 7.
+    // 3 before 4 before 5 before 14 before 7; 23 stands between the last two.
     assert_eq!(refused(0, Opening { instance: 4, core_hz: 0, ..mode(SpiMode::Mode3) }), 3);
     assert_eq!(refused(0, Opening { instance: 4, core_hz: 0, ..no_qpi }), 4);
     assert_eq!(refused(0, Opening { core_hz: 0, ..no_qpi }), 5);
     assert_eq!(refused(0, Opening { core_hz: 0, ..opening() }), 14);
 }
 
+/// As 23, after 14 and before 7. The choice of a clock alone gives its fallback there.
+#[test]
+fn openings_without_a_clock_refused() {
+    let no_qpi = Config { work_mode: WorkMode::Qpi, ..Config::default() };
+    let mode_1 = Config { mode: SpiMode::Mode1, ..Config::default() };
+    for pll_hz in [0, 3_200_000_032, 3_200_000_033, u32::MAX] {
+        let without = Opening { pll_hz, ..opening() };
+        for freq in [0, 10_000_000, u32::MAX] {
+            let config = Config { freq, ..Config::default() };
+            assert_eq!(opening_refused(1, Opening { config, ..without }), 23);
+            let fallback = choice(0, Divider::Cdr1(0));
+            assert_eq!(qspi::select_clock(pll_hz, freq), fallback);
+            assert_eq!(qspi::actual_sck(pll_hz, fallback), Ok(pll_hz));
+        }
+        assert_eq!(opening_refused(0, without), 23);
+        assert_eq!(opening_refused(0, Opening { core_hz: 0, ..without }), 14);
+        assert_eq!(opening_refused(1, Opening { core_hz: 0, ..without }), 14);
+        assert_eq!(opening_refused(1, Opening { config: no_qpi, ..without }), 5);
+        assert_eq!(opening_refused(1, Opening { instance: 4, ..without }), 4);
+        assert_eq!(opening_refused(1, Opening { config: mode_1, ..without }), 3);
+    }
+    // Also where there is neither log nor answer.
+    let mut lent = Lent { limit: 1, log: &mut [], answers: &[] };
+    let opened = qspi::open(&mut lent, &Opening { pll_hz: 0, ..opening() });
+    assert_eq!(opened.ended.done(), Err(Number::NoClock));
+}
+
+/// An opening by numbers that every test but that of the limit refuses.
+const ALL_WRONG: by_number::Opening = by_number::Opening {
+    instance: 9,
+    qpi: false,
+    pll_hz: 0,
+    osc_hz: 1,
+    core_hz: 0,
+    freq: 1,
+    idle_high: false,
+    second_transition: true,
+    master: true,
+    work_mode: 7,
+    bit_mode: false,
+    lsb_first: false,
+    cs: None,
+};
+
+/// The refusals in their order, each once what was refused before is mended. Each has rate 0.
+#[test]
+fn an_opening_with_all_wrong() {
+    let refused = |opening: &by_number::Opening| {
+        refused(0, |lent| {
+            let (ended, rate) = by_number::open(lent, opening);
+            assert_eq!(rate, 0);
+            ended
+        })
+    };
+    let mut asked = ALL_WRONG;
+    assert_eq!(refused(&asked), 8);
+    asked.work_mode = 6;
+    assert_eq!(refused(&asked), 3);
+    asked.second_transition = false;
+    assert_eq!(refused(&asked), 4);
+    asked.instance = 3;
+    assert_eq!(refused(&asked), 5);
+    asked.qpi = true;
+    assert_eq!(refused(&asked), 14);
+    asked.core_hz = 1;
+    assert_eq!(refused(&asked), 23);
+    asked.pll_hz = 1;
+    assert_eq!(refused(&asked), 7);
+}
+
 #[test]
 fn numbers_that_are_no_work_mode() {
-    let opening = by_number::Opening {
-        instance: 9,
-        qpi: true,
-        pll_hz: 1,
-        osc_hz: 1,
-        core_hz: 0,
-        freq: 1,
-        idle_high: false,
-        second_transition: true,
-        master: true,
-        work_mode: 7,
-        bit_mode: false,
-        lsb_first: false,
-        cs: None,
-    };
-    let open = |lent: &mut Lent| {
-        let (ended, rate) = by_number::open(lent, &opening);
-        assert_eq!(rate, 0);
-        ended
-    };
-    assert_eq!(refused(0, open), 8);
+    assert_eq!(refused(1, |lent| by_number::open(lent, &ALL_WRONG).0), 8);
     assert_eq!(refused(1, |lent| by_number::set_work_mode(lent, true, 7)), 8);
     assert_eq!(refused(0, |lent| by_number::set_work_mode(lent, true, 7)), 7);
 }

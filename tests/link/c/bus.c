@@ -12,18 +12,32 @@ struct opening {
 
 static uint32_t rate;
 
-/* Opens with P1's clock at a core rate, on as many zero answers. */
-static uint32_t opened_at(uint32_t core_hz, uint32_t limit, size_t log_len, size_t answers_len,
+/* The rates that it is told. */
+struct rates {
+    uint32_t pll_hz, core_hz, freq;
+};
+
+static const struct rates p1 = {1200000000u, CORE_HZ, 10000000u};
+
+/* Opens at these rates, on as many zero answers. */
+static uint32_t opened_at(const struct rates *at, uint32_t limit, size_t log_len, size_t answers_len,
                           const struct opening *o) {
     lend();
     rate = UINT32_MAX;
-    return qspi_open(limit, log_words, log_len, zeros, answers_len, o->instance, o->qpi, 1200000000u, 24000000u,
-                     core_hz, 10000000u, o->idle_high, o->second_transition, o->master, o->work_mode, o->bit_mode,
+    return qspi_open(limit, log_words, log_len, zeros, answers_len, o->instance, o->qpi, at->pll_hz, 24000000u,
+                     at->core_hz, at->freq, o->idle_high, o->second_transition, o->master, o->work_mode, o->bit_mode,
                      o->lsb_first, o->cs, o->cs_idle_high, o->cs_high, o->cs_1, &rate, &counts);
 }
 
+/* Opens with P1's clock. */
 static uint32_t opened(uint32_t limit, size_t log_len, size_t answers_len, const struct opening *o) {
-    return opened_at(CORE_HZ, limit, log_len, answers_len, o);
+    return opened_at(&p1, limit, log_len, answers_len, o);
+}
+
+/* Opens from a PLL rate and at a core rate, for P1's target. */
+static uint32_t opened_from(uint32_t pll_hz, uint32_t core_hz, uint32_t limit, const struct opening *o) {
+    const struct rates at = {pll_hz, core_hz, p1.freq};
+    return opened_at(&at, limit, WORDS, WORDS, o);
 }
 
 void test_open(void) {
@@ -95,15 +109,63 @@ void test_core_rate(void) {
     const struct opening four = {.instance = 4}, qpi = {.work_mode = QSPI_QPI_MODE};
     ENDED(opened(1, WORDS, WORDS, &plain), QSPI_DONE, 30, 13, 0, 0);
     memcpy(at_another, log_words, sizeof at_another);
-    ENDED(opened_at(1, 1, WORDS, WORDS, &plain), QSPI_DONE, 30, 13, 0, 0);
+    ENDED(opened_from(p1.pll_hz, 1, 1, &plain), QSPI_DONE, 30, 13, 0, 0);
     CHECK(rate == 10000000 && memcmp(log_words, at_another, sizeof at_another) == 0);
-    ENDED(opened_at(UINT32_MAX, 1, WORDS, WORDS, &plain), QSPI_DONE, 30, 13, 0, 0);
+    ENDED(opened_from(p1.pll_hz, UINT32_MAX, 1, &plain), QSPI_DONE, 30, 13, 0, 0);
     CHECK(rate == 10000000 && memcmp(log_words, at_another, sizeof at_another) == 0);
-    REFUSED(opened_at(0, 1, WORDS, WORDS, &plain), QSPI_CYCLES);
+    REFUSED(opened_from(p1.pll_hz, 0, 1, &plain), QSPI_CYCLES);
     CHECK(rate == 0);
-    REFUSED(opened_at(0, 0, WORDS, WORDS, &plain), QSPI_CYCLES);
-    REFUSED(opened_at(0, 1, WORDS, WORDS, &qpi), QSPI_QPI);
-    REFUSED(opened_at(0, 1, WORDS, WORDS, &four), QSPI_INSTANCE);
+    REFUSED(opened_from(p1.pll_hz, 0, 0, &plain), QSPI_CYCLES);
+    REFUSED(opened_from(p1.pll_hz, 0, 1, &qpi), QSPI_QPI);
+    REFUSED(opened_from(p1.pll_hz, 0, 1, &four), QSPI_INSTANCE);
+}
+
+/* Without an eligible module clock an opening is refused, after 14 and before 7. The choice of clock alone is not. */
+void test_no_clock(void) {
+    const uint32_t without[] = {0, 3200000032u, UINT32_MAX};
+    const struct opening plain = {.instance = 2, .cs = true}, four = {.instance = 4}, no_mode = {.work_mode = 7};
+    const struct opening qpi = {.work_mode = QSPI_QPI_MODE}, mode_1 = {.second_transition = true};
+    uint32_t mod_div, kind, count;
+    for (size_t i = 0; i < sizeof without / sizeof *without; i++) {
+        REFUSED(opened_from(without[i], CORE_HZ, 1, &plain), QSPI_NO_CLOCK);
+        CHECK(rate == 0);
+        REFUSED(opened_from(without[i], CORE_HZ, 0, &plain), QSPI_NO_CLOCK);
+        REFUSED(opened_from(without[i], 0, 1, &plain), QSPI_CYCLES);
+        REFUSED(opened_from(without[i], CORE_HZ, 1, &qpi), QSPI_QPI);
+        REFUSED(opened_from(without[i], CORE_HZ, 1, &four), QSPI_INSTANCE);
+        REFUSED(opened_from(without[i], CORE_HZ, 1, &mode_1), QSPI_SPI_MODE);
+        REFUSED(opened_from(without[i], CORE_HZ, 1, &no_mode), QSPI_CHAIN);
+        mod_div = kind = count = UINT32_MAX;
+        qspi_select_clock(without[i], p1.freq, &mod_div, &kind, &count);
+        CHECK(mod_div == 0 && kind == QSPI_CDR1 && count == 0);
+        CHECK(qspi_actual_sck(without[i], mod_div, kind, count, &rate) == QSPI_DONE && rate == without[i]);
+    }
+}
+
+/* Every other PLL opens, whatever the target: at a rate from 1 to 100,000,000 Hz. */
+void test_bus_rates(void) {
+    const struct {
+        uint32_t pll_hz, freq, rate;
+    } buses[] = {
+        {1, 0, 1},
+        {1, 10000000u, 1},
+        {1, UINT32_MAX, 1},
+        {100000, 0, 100000},
+        {100000000u, UINT32_MAX, 100000000u},
+        {100000001u, UINT32_MAX, 50000000u},
+        {3200000031u, 0, 97656},
+        {3200000031u, 10000000u, 10000000u},
+        {3200000031u, UINT32_MAX, 100000000u},
+    };
+    const struct opening plain = {.instance = 2, .cs = true};
+    for (size_t i = 0; i < sizeof buses / sizeof *buses; i++) {
+        const struct rates at = {buses[i].pll_hz, CORE_HZ, buses[i].freq};
+        ENDED(opened_at(&at, 1, WORDS, WORDS, &plain), QSPI_DONE, 30, 13, 0, 0);
+        CHECK(rate == buses[i].rate && rate >= 1 && rate <= 100000000u);
+    }
+    /* The last was divided by 32, and by 1. */
+    CHECK(values(QSPI_WRITE, QSPI_MODULE_CLOCK + 2).together == 0x311F);
+    CHECK(values(QSPI_WRITE, 0x024).together == 0);
 }
 
 void test_free(void) {

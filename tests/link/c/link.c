@@ -57,10 +57,11 @@ struct values values(enum qspi_op op, uint32_t place) {
 }
 
 static void (*const tests[])(void) = {
-    test_clock,          test_dummies,  test_limit,          test_open,       test_open_flags,  test_open_refused,
-    test_core_rate,      test_free,     test_flush,          test_mode,       test_write,       test_read,
-    test_transfer,       test_in_place, test_quad_read,      test_quad_write, test_too_long,    test_transaction,
-    test_chains_refused, test_delays,   test_delays_refused, test_sheet,      test_sheet_delay, test_no_sheets,
+    test_clock,       test_dummies,     test_limit,          test_open,     test_open_flags,     test_open_refused,
+    test_core_rate,   test_no_clock,    test_bus_rates,      test_free,     test_flush,          test_mode,
+    test_write,       test_read,        test_transfer,       test_in_place, test_quad_read,      test_quad_write,
+    test_too_long,    test_transaction, test_chains_refused, test_delays,   test_delays_refused, test_sheet,
+    test_sheet_delay, test_no_sheets,
 };
 
 int main(void) {

@@ -53,6 +53,8 @@ void test_open(void);
 void test_open_flags(void);
 void test_open_refused(void);
 void test_core_rate(void);
+void test_no_clock(void);
+void test_bus_rates(void);
 void test_free(void);
 void test_flush(void);
 void test_mode(void);

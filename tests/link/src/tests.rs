@@ -103,18 +103,35 @@ fn constant(error: &str) -> String {
     name
 }
 
+/// The numbers of documents 01 and 02: the errors of the crate config, each with its number, and done.
+fn numbers() -> Vec<(String, String)> {
+    let of_line = |l: &str| {
+        let (error, number) = l.strip_prefix("    ")?.strip_suffix(',')?.split_once(" = ")?;
+        Some((String::from(error), String::from(number)))
+    };
+    let mut numbers = vec![(String::from("Done"), String::from("0"))];
+    numbers.extend(text("crates/config/src/error.rt").lines().filter_map(of_line));
+    assert_eq!(numbers.len(), 16);
+    numbers
+}
+
 #[test]
 fn the_header_has_the_numbers_of_documents_01_and_02() {
-    let (header, errors) = (text("bindings/c/qspi.h"), text("crates/config/src/error.rt"));
-    let mut constants = vec![(String::from("DONE"), "0")];
-    let errors = errors.lines().filter_map(|l| l.strip_prefix("    ")?.strip_suffix(',')?.split_once(" = "));
-    constants.extend(errors.map(|(error, number)| (constant(error), number)));
-    assert_eq!(constants.len(), 15);
-    for (name, number) in constants {
+    let header = text("bindings/c/qspi.h");
+    for (error, number) in numbers() {
+        let name = constant(&error);
         let line = header.lines().find_map(|l| l.trim().strip_prefix(&format!("QSPI_{name} = ")));
         let given = line.and_then(|l| l.split([',', ' ']).next());
-        assert_eq!(given, Some(number), "{name}");
+        assert_eq!(given, Some(number.as_str()), "{name}");
     }
+}
+
+#[test]
+fn the_package_has_the_numbers_of_documents_01_and_02() {
+    let package = text("bindings/rust/src/ended.rs");
+    let named = package.lines().filter_map(|l| l.trim().strip_prefix("(")?.split_once(", Number::"));
+    let named = named.filter_map(|(number, rest)| Some((rest.split_once(", \"")?.0.into(), number.into())));
+    assert_eq!(named.collect::<Vec<(String, String)>>(), numbers());
 }
 
 #[test]
