@@ -8,10 +8,11 @@ each that its own proof fails, and not only that it calls one whose proof does. 
 place in the code or a name is missing, which a proof of any answer would be: a fact must fail.
 
 The crates are copied to a folder for temporary files and checked there by `rt check`: as they stand, and then with one
-edit at a time. An edit that marks no function is not tried again where `rt ci` has tried it in the same gate and told
-which fact fails: EDITS_TOLD names what that wrote. An edit that passed is kept for later runs on this machine, by the
-checksum of all that its check read; --anew tries all of them.
+edit at a time. An edit is not tried again where `rt ci` has tried it in the same gate and told which fact fails, if it
+marks no function, or one at which that fact stands: EDITS_TOLD names what that wrote. An edit that passed is kept for
+later runs on this machine, by the checksum of all that its check read; --anew tries all of them.
 """
+import doctest
 import functools
 import hashlib
 import os
@@ -157,9 +158,53 @@ def tried(folder, text):
 
 
 def told():
-    """The edits of which `rt ci` told in this gate that a fact fails."""
+    """The edits of which `rt ci` told in this gate that a fact fails, with that fact."""
     path = os.environ.get("EDITS_TOLD")
-    return {edit for edit, fact in TOLD.findall(read(path)) if not MISSING.search(fact)} if path else set()
+    return {edit: fact for edit, fact in TOLD.findall(read(path)) if not MISSING.search(fact)} if path else {}
+
+
+def names_at(text, row):
+    """The names of the function around a line of the code, or begun by it; its type's first if it is a method.
+
+    >>> code = "impl A<'_> {\\n    fn f() {\\n    }\\n}\\n#[x]\\npub fn g() {"
+    >>> names_at(code, 1), names_at(code, 2), names_at(code, 3), names_at(code, 5)
+    ([], ['A', 'f'], ['A', 'f'], ['g'])
+    """
+    lines = text.split("\n")
+    while lines[row - 1].lstrip().startswith("#["):
+        row += 1
+    fn, block = None, None
+    for line in lines[:row]:
+        fn = re.match(r"(\s*)(?:pub )?fn (\w+)", line) or fn
+        block = re.match(r"impl\b.*?(\w+)(?:<.*>)? \{", line) or block
+    if not fn:
+        return []
+    return [block[1], fn[2]] if fn[1] and block else [fn[2]]
+
+
+def stands_at(fact, function, folder):
+    """Whether a fact that fails stands in the function's proof, or in its code.
+
+    >>> stands_at("./proofs/a/T/f/Answers.antt:6:3: error: it", "c::a::T::f", "")
+    True
+    >>> stands_at("./proofs/a/f/Answers.antt:6:3: error: it", "c::a::T::f", "")
+    False
+    >>> stands_at("./proofs/f.antt:6:3: error: it", "c::f", "")
+    False
+    """
+    path = function.split("::")[1:]
+    if proof := re.match(r"\./proofs/(\S+)/\w+\.antt:\d", fact):
+        return proof[1].split("/") == path
+    code = re.match(r"(?:note: )?src/(\S+)\.rt:(\d+):\d+: it is not proved that ", fact)
+    if not code:
+        return False
+    modules = [] if code[1] == "lib" else code[1].split("/")
+    return path == modules + names_at(read(f"{folder}/src/{code[1]}.rt"), int(code[2]))
+
+
+def taken(fact, functions, folder):
+    """Whether what was told of an edit is all that there is to see: it marks no function, or one at which it stands."""
+    return bool(fact) and (not functions or (len(functions) == 1 and stands_at(fact, functions[0], folder)))
 
 
 class Counts:
@@ -231,8 +276,10 @@ def copied(source, to):
 def main(words):
     anew, words = "--anew" in words, {it for it in words if it != "--anew"}
     version = subprocess.run(["rt", "version"], stdout=subprocess.PIPE, check=True).stdout
-    counts, waiting, new, of, tests = Counts(), queue.Queue(), [], 0, 0
-    tried_before = set() if anew else told()
+    own = doctest.testmod()
+    counts, waiting, new, of, tests = Counts(), queue.Queue(), [], 0, own.attempted
+    counts.passed, counts.failed = own.attempted - own.failed, own.failed
+    tried_before = {} if anew else told()
     with tempfile.TemporaryDirectory(prefix="edits-") as room:
         first = copied(ROOT, f"{room}/0")
         for crate in first.rows:
@@ -246,8 +293,8 @@ def main(words):
                 tests += 1 + len(marked(text))
                 if os.path.isfile(kept) and not anew:
                     counts.tell(f"{crate}/{edit}", 1 + len(marked(text)), [], "kept")
-                elif f"{crate}/{edit}" in tried_before and not marked(text):
-                    counts.tell(f"{crate}/{edit}", 1, [], "told by rt ci")
+                elif taken(tried_before.get(f"{crate}/{edit}"), marked(text), first.folder(crate)):
+                    counts.tell(f"{crate}/{edit}", 1 + len(marked(text)), [], "told by rt ci")
                     keep(kept)
                 else:
                     edits[edit] = text, kept
