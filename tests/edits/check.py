@@ -166,7 +166,7 @@ def told():
 def names_at(text, row):
     """The names of the function around a line of the code, or begun by it; its type's first if it is a method.
 
-    >>> code = "impl A<'_> {\\n    fn f() {\\n    }\\n}\\n#[x]\\npub fn g() {"
+    >>> code = "impl A<'_> {\\n    fn f() {\\n    }\\n}\\n#[x]\\npub(crate) fn g() {"
     >>> names_at(code, 1), names_at(code, 2), names_at(code, 3), names_at(code, 5)
     ([], ['A', 'f'], ['A', 'f'], ['g'])
     """
@@ -175,7 +175,7 @@ def names_at(text, row):
         row += 1
     fn, block = None, None
     for line in lines[:row]:
-        fn = re.match(r"(\s*)(?:pub )?fn (\w+)", line) or fn
+        fn = re.match(r"(\s*)(?:pub(?:\(\w+\))? )?fn (\w+)", line) or fn
         block = re.match(r"impl\b.*?(\w+)(?:<.*>)? \{", line) or block
     if not fn:
         return []
