@@ -10,6 +10,7 @@ use Rattle.records.specs.Rules.{cycles}
 use Rattle.records.specs.Check.{out_of_range, extents_fault, windows_fault, record_fault, records_in, along, checked}
 use Rattle.core_delays.specs.Delays.{record_cycles, chain_cycles}
 use Rattle.core_delays.specs.Due.{delay_line, digit, due_byte as delay_due_byte, due}
+use Rattle.clock.specs.Clocked.{clocked}
 use Rattle.verdicts.specs.Departures.{agreed}
 use Rattle.verdicts.specs.Judged.{judged}
 use Rattle.verdicts.specs.Laws.{SameAreEqual, EqualAreSame, ExcludedIsAgreed, HypothesesMet}
@@ -51,7 +52,7 @@ pub hypotheses_met : HypothesesMet
 unfolding judged agreed has_own oracles_own refusable refused refused_end refusing
     number_of is_hex value_of step digit_of in_32 has_modes mode_word halved due_byte modes_of record_modes modes_along
     cycles out_of_range extents_fault windows_fault record_fault records_in along checked
-    record_cycles chain_cycles delay_line digit delay_due_byte due
+    record_cycles chain_cycles delay_line digit delay_due_byte due clocked
 hypotheses_met =
     record {
       none = refl;
@@ -65,6 +66,13 @@ hypotheses_met =
       sheet_stays = refl;
       no_core = refl;
       no_core_cut = refl;
+      no_core_first = refl;
+      no_pll = refl;
+      no_pll_cut = refl;
+      least_pll = refl;
+      most_pll = refl;
+      above_pll = refl;
+      above_pll_cut = refl;
       lasts = refl;
       halved = refl;
       as_halved = refl;

@@ -1,3 +1,4 @@
 pub mod Equal
 pub mod Ends
 pub mod Laws
+pub mod Starts

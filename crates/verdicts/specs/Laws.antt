@@ -58,15 +58,19 @@ sheet_into mode =
     codes "sheet 60 60 1 0 0 0 0 0 0 0 1 0 0 0 1 0 0 0 2 0 0 0 7 0 0 0 " ++ mode
     ++ codes " 0 0 0 0 0 0 0 0 0 0 0 0 0 0 0 0 0 0 0 0 0 0 0 0 0 0 0 0 0 0 0 0 0 192"
 
--- An opening at core rate 0, in one line of settings; an answer without an access, and the refusal by 14.
-abbrev opens : List ℕ
-opens = codes "open 0 0 1 0 0 0 0 0 0 0 10000000 1200000000 24000000 0 0 1 0 0"
+-- An opening of a PLL at a core rate; an answer without an access, and the refusals by 14 and 23.
+abbrev opens : List ℕ → List ℕ → List ℕ
+opens pll core_hz =
+    codes "open 0 0 1 0 0 0 0 0 0 0 10000000 " ++ pll ++ codes " 24000000 " ++ core_hz ++ codes " 0 1 0 0"
 
 abbrev cut : List ℕ
 cut = codes "end 10 0 0 0 0" ++ 10 ∷ codes "rate 0" ++ 10 ∷ []
 
-abbrev no_core : List ℕ
-no_core = codes "end 14 0 0 0 0" ++ 10 ∷ codes "rate 0" ++ 10 ∷ []
+abbrev fourteen : List ℕ
+fourteen = codes "end 14 0 0 0 0" ++ 10 ∷ codes "rate 0" ++ 10 ∷ []
+
+abbrev twenty_three : List ℕ
+twenty_three = codes "end 23 0 0 0 0" ++ 10 ∷ codes "rate 0" ++ 10 ∷ []
 
 -- a delay of so many nanoseconds at a core rate, as a transaction; an entry of so many cycles; the refusal by 14
 abbrev delays : List ℕ → List ℕ → List ℕ
@@ -102,8 +106,15 @@ pub record HypothesesMet : Type 0 where
   pub qpi_leaves : judged into_qpi kept cleared ≡ Verdict.Different
   pub sheet_leaves : judged (sheet_into (codes "4")) kept cleared ≡ Verdict.Excluded
   pub sheet_stays : judged (sheet_into (codes "6")) kept kept ≡ Verdict.Same
-  pub no_core : judged opens cut no_core ≡ Verdict.Excluded
-  pub no_core_cut : judged opens cut cut ≡ Verdict.Different
+  pub no_core : judged (opens (codes "1200000000") (codes "0")) cut fourteen ≡ Verdict.Excluded
+  pub no_core_cut : judged (opens (codes "1200000000") (codes "0")) cut cut ≡ Verdict.Different
+  pub no_core_first : judged (opens (codes "0") (codes "0")) cut fourteen ≡ Verdict.Excluded
+  pub no_pll : judged (opens (codes "0") (codes "1")) cut twenty_three ≡ Verdict.Excluded
+  pub no_pll_cut : judged (opens (codes "0") (codes "1")) cut cut ≡ Verdict.Different
+  pub least_pll : judged (opens (codes "1") (codes "1")) cut cut ≡ Verdict.Same
+  pub most_pll : judged (opens (codes "3200000031") (codes "1")) cut cut ≡ Verdict.Same
+  pub above_pll : judged (opens (codes "3200000032") (codes "1")) cut twenty_three ≡ Verdict.Excluded
+  pub above_pll_cut : judged (opens (codes "3200000032") (codes "1")) cut cut ≡ Verdict.Different
   pub lasts : judged (delays (codes "1000000001") (codes "1")) at_once (delayed (codes "00000002")) ≡ Verdict.Excluded
   pub halved : judged (delays (codes "1000000001") (codes "1")) at_once at_once ≡ Verdict.Different
   pub as_halved : judged (delays (codes "1000000000") (codes "0")) at_once at_once ≡ Verdict.Same

@@ -1,7 +1,7 @@
 -- The answer of a call that is refused, and that of the oracle where the Rust has none (tests/oracle/README.md says
 -- what an answer is).
-use Rattle.std.specs.Prelude.{ℕ, ◌-◌, Bool, false, not, cond, ◌&&◌, ◌||◌, List, [], ◌∷◌, length, take, drop, ◌==◌}
-use Rattle.std.specs.Prelude.{nat_eq, nat_le, bytes_eq, codes}
+use Rattle.std.specs.Prelude.{ℕ, ◌-◌, Bool, false, not, cond, ◌&&◌, ◌||◌, List, [], ◌∷◌, ◌++◌, length, take, drop}
+use Rattle.std.specs.Prelude.{◌==◌, nat_eq, nat_le, bytes_eq, codes}
 use Rattle.std.specs.List.{starts_with, position_or_len, before_first, list_any, slice_split}
 use Rattle.std.specs.Option.{option_map_or}
 use Rattle.cases.specs.Number.{number_of}
@@ -78,6 +78,10 @@ open_name = codes "open"
 -- what follows the end line of a refused call: for an opening that it has no rate
 abbrev pub rest_due : List ℕ → List ℕ
 rest_due name = cond (bytes_eq name open_name) no_rate (10 ∷ [])
+
+-- the whole answer of an opening that is refused by the number of these digits
+abbrev pub refused_opening : List ℕ → List ℕ
+refused_opening digits = end_word ++ (digits ++ (zeros ++ no_rate))
 
 -- the whole answer of a refused call of this name; of dividers that do not exist "sck 12 0"
 unfoldable pub refused : List ℕ → List ℕ → Bool

@@ -1,8 +1,9 @@
 // The verdict on a case: the oracle's answer against the library's, but for agreed departures; the tally of verdicts.
 #![tactic(auto)]
 
-ghost use Rattle.std.specs.Prelude.{◌≡◌, IfOk};
+ghost use Rattle.std.specs.Prelude.{◌≡◌, IfOk, bytes_eq};
 ghost use Rattle.verdicts.specs.Refused.{oracles_own, has_own, refusing, refused_end, refused, refusable};
+ghost use Rattle.verdicts.specs.Refused.{refused_opening};
 ghost use Rattle.verdicts.specs.Departures.{agreed};
 ghost use Rattle.verdicts.specs.Judged.{judged};
 ghost use Rattle.verdicts.specs.Tallied.{none, tallied};
@@ -137,6 +138,19 @@ fn may_be_refused(name: &[u8]) -> bool
     name != b"free".as_slice() && name != b"clock".as_slice() && name != b"dummy".as_slice()
 }
 
+// The whole answer of an opening that is refused by the number of these digits.
+fn is_refused_opening(digits: &[u8], answer: &[u8]) -> bool
+    ensures { result ≡ bytes_eq answer.now (refused_opening digits.now) }
+{
+    let Some(rest) = answer.strip_prefix(b"end ") else {
+        return false;
+    };
+    let Some(rest) = rest.strip_prefix(digits) else {
+        return false;
+    };
+    rest == b" 0 0 0 0\nrate 0\n".as_slice()
+}
+
 // The agreed departures from the Rust, a row each: which cases it is about, and whether the library answered what is
 // then due. None where the case is none of them.
 #[tactic(auto, unfolding(crate::specs::Departures::agreed))]
@@ -160,7 +174,11 @@ fn agreed(
     }
     // At core rate 0 an opening is refused by 14, where the Rust has no core rate.
     if name == b"open".as_slice() && delays::no_core_rate(alloc, case)? {
-        return Ok(Some(library == b"end 14 0 0 0 0\nrate 0\n".as_slice()));
+        return Ok(Some(is_refused_opening(b"14", library)));
+    }
+    // An opening whose PLL has no eligible module clock is refused by 23, where the Rust opens.
+    if name == b"open".as_slice() && no_clock::without_clock(alloc, case)? {
+        return Ok(Some(is_refused_opening(b"23", library)));
     }
     // The delay records of a transaction have the cycles of the core rate, where the Rust halves the nanoseconds.
     if name == b"transaction".as_slice() {
