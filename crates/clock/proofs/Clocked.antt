@@ -62,14 +62,9 @@ eligible_clocked pll i f =
     clocked_by pll (i / 272) (omega (arith, f.scanned))
     ((and-eq-true_iff _ _).1 (le-leb _ _ f.least, le-leb _ _ f.most))
 
--- what a truth value is, when it cannot be the other
 not_true : (b : Bool) → (b ≡ true → ⊥) → b ≡ false
 not_true true h = absurd (h refl)
 not_true false h = refl
-
-not_false : (b : Bool) → (b ≡ false → ⊥) → b ≡ true
-not_false true h = refl
-not_false false h = absurd (h refl)
 
 pub no_clock_no_candidate : NoClockNoCandidate
 no_clock_no_candidate pll = (
