@@ -1,5 +1,5 @@
 -- Writing one text after another, how many digits a number takes, and the lines of a log.
-use Prim.Native.Nat.{ℕ, zero, suc, ◌+◌, ◌-◌, ◌*◌, ◌/◌, ◌^◌, ◌≤◌, ◌<◌, min, max}
+use Prim.Native.Nat.{ℕ, zero, suc, ◌+◌, ◌-◌, ◌*◌, ◌/◌, ◌^◌, ◌≤◌, ◌<◌, min}
 use mathlib.Core.Path.{◌≡◌, refl, sym, ap, ap₂, ◌∙◌}
 use mathlib.Core.Bool.{Bool, true, false, cond}
 use mathlib.Core.List.{List, [], ◌∷◌, ◌++◌, append_assoc, append-nil}
@@ -111,19 +111,6 @@ module _ (n r : ℕ) (f : IsDigitCount 10 1 n r) where
       go : Dec (r ≤ 20) → r ≤ 20
       go (yes p) = p
       go (no p) = absurd (omega (arith, f.2 (omega arith), pow-le-pow_right {n = 10} (omega arith) {i = 20} {j = r - 1} (omega arith)))
-
--- a number below 16 ^ w takes w hexadecimal digits, with zeros in front
-pub hex_width : (n w r : ℕ) → 0 < w → w ≤ 16 → n < 16 ^ w → IsDigitCount 16 (min (max w 1) 16) n r → r ≡ w
-hex_width n w r p m h f = go (dec_lt w r)
-  where
-    go : Dec (w < r) → r ≡ w
-    go (yes q) =
-        absurd (omega (
-          arith,
-          f.2 (omega arith),
-          pow-le-pow_right {n = 16} (omega arith) {i = w} {j = r - 1} (omega arith),
-        ))
-    go (no q) = omega (arith, f.0)
 
 -- the lines of one entry more
 pub line_long : (w v : ℕ) → length (entry_line w v) ≡ 16

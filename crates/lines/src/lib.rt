@@ -1,8 +1,8 @@
 // The lines that a sheet prints, written into a lent buffer.
 #![tactic(auto)]
 
-ghost use Rattle.std.specs.Prelude.{◌≡◌, ◌+◌, ◌*◌, ◌^◌, ◌≤◌, ◌<◌, length};
-ghost use Rattle.io.specs.Digits.{last_digits};
+ghost use Rattle.std.specs.Prelude.{◌≡◌, ◌+◌, ◌*◌, ◌^◌, ◌≤◌, ◌<◌, ◌%◌, length};
+ghost use Rattle.io.specs.Digits.{last_digits, hex_digit_ascii};
 ghost use Rattle.lines.specs.Text.{letter_of, entry_line, number, end_line, ending_of, printed, Wrote};
 ghost use Rattle.lines.specs.Writer.{Puts};
 
@@ -45,9 +45,9 @@ impl Writer<'_> {
         requires room { self.old.len + width ≤ length self.old.buffer.now }
         ensures { Puts self.old self.new (last_digits 16 width n) }
     {
-        let mut digits = [0u8; 16];
-        let k = io::hex(n as u64, width, &mut digits);
-        self.put(&digits[..k]);
+        let end = self.len + width;
+        hex_digits(n, &mut self.buffer[self.len..end]);
+        self.len = end;
     }
 
     // The line of one entry of the log.
@@ -88,6 +88,25 @@ fn letter(op: u32) -> u8
         4 => b'g',
         5 => b'd',
         _ => b'?',
+    }
+}
+
+// The last hexadecimal digit of n.
+fn digit(n: u32) -> u8
+    ensures { result ≡ hex_digit_ascii (n % 16) }
+{
+    let d = n % 16;
+    if d < 10 { 48 + d as u8 } else { 87 + d as u8 }
+}
+
+// The last hexadecimal digits of n, as many as there is room for in `text`.
+fn hex_digits(n: u32, text: &mut [u8])
+    ensures { text.new ≡ last_digits 16 (length text.old) n }
+{
+    let mut rest = n;
+    for i in (0..text.len()).rev() {
+        text[i] = digit(rest);
+        rest /= 16;
     }
 }
 
