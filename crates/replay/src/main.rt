@@ -2,7 +2,7 @@
 // answer that follows the case.
 #![tactic(auto)]
 
-ghost use Rattle.std.specs.Prelude.{◌≤◌, length};
+ghost use Rattle.std.specs.Prelude.{◌≤◌, length, IfOk};
 
 use failure::Failure;
 use fields::Fields;
@@ -76,27 +76,47 @@ fn replay(alloc: Global, case: &[u8]) -> io::Result<Verdict> {
     }
 }
 
-// Every case of the text. What is left and is no whole case is a difference.
-fn replay_all(alloc: Global, text: &[u8]) -> io::Result<Tally> {
-    let mut tally = Tally::new();
+// Every whole case of the text: the tally with them, and how many bytes they and their answers take.
+fn replay_all(alloc: Global, text: &[u8], tally: Tally) -> io::Result<(Tally, usize)>
+    ensures { IfOk result (λ r. r.1 ≤ length text.now) }
+{
+    let mut tally = tally;
     let mut at = 0;
     while let Some(end) = cases::case_end(text, at) {
-        if end + END - at > LONGEST_CASE {
-            break;
-        }
         tally = tally.counted(replay(alloc, &text[at..end + 1])?);
         at = end + END;
     }
-    if at < text.len() {
+    Ok((tally, at))
+}
+
+// The cases of standard input, of which there is never more at hand than the longest case takes. What is left and is no
+// whole case is a difference.
+fn replay_input(rt: &impl Input, alloc: Global) -> io::Result<Tally> {
+    let mut input = rt.reader().take(0);
+    // With room for a byte more, which is never read, the text does not grow to see that there is no more.
+    let mut text = Vec::with_capacity(alloc, LONGEST_CASE + 1)?;
+    let mut tally = Tally::new();
+    for _ in 0..u64::MAX {
+        input.set_limit(LONGEST_CASE.saturating_sub(text.len()) as u64);
+        // A read error is taken as the end of the input.
+        let _ = input.read_to_end(&mut text);
+        let (counted, used) = replay_all(alloc, &text, tally)?;
+        tally = counted;
+        if used == 0 {
+            break;
+        }
+        text.as_mut_slice().copy_within(used.., 0);
+        text.truncate(text.len() - used);
+    }
+    if !text.is_empty() {
         tally = tally.counted(Verdict::Different);
     }
     Ok(tally)
 }
 
 fn main(rt: HostRuntime) -> io::Result<()> {
-    let alloc = rt.alloc();
-    let mut text = Vec::new(alloc);
-    // A read error is taken as the end of the input.
-    let _ = rt.reader().read_to_end(&mut text);
-    report(&rt, replay_all(alloc, &text)?)
+    let tally = replay_input(&rt, rt.alloc())?;
+    // What cannot be written is not told.
+    let _ = report(&rt, tally);
+    Ok(())
 }
