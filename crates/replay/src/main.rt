@@ -25,6 +25,9 @@ const END: usize = 3;
 // A case that is longer, with its end, is a difference, and nothing after it is replayed.
 const LONGEST_CASE: usize = 65_536;
 
+// What is behind so many pieces is not read.
+const MOST_PIECES: u32 = 1_000_000;
+
 // The first difference, if there is one, and the counts.
 fn report(rt: &impl Print, tally: Tally) -> io::Result<()> {
     let Tally {
@@ -96,7 +99,7 @@ fn replay_input(rt: &impl Input, alloc: Global) -> io::Result<Tally> {
     // With room for a byte more, which is never read, the text does not grow to see that there is no more.
     let mut text = Vec::with_capacity(alloc, LONGEST_CASE + 1)?;
     let mut tally = Tally::new();
-    for _ in 0..u64::MAX {
+    for _ in 0..MOST_PIECES {
         input.set_limit(LONGEST_CASE.saturating_sub(text.len()) as u64);
         // A read error is taken as the end of the input.
         let _ = input.read_to_end(&mut text);
